@@ -40,6 +40,7 @@ class Thread:
     callers: list = dataclasses.field(default_factory=list)
     under: object = None
     saved: bool = False
+    waited: tuple | None = None
 
     def op(self):
         """The op at its place, or None at its script's end."""
@@ -152,7 +153,7 @@ class Moves:
         self.instances = [Instance(name) for name in scenario.instances]
         self.threads, self.calls, self.works, self.live_works = {}, {}, {}, []
         self.threads_made = self.works_made = self.batches = 0
-        self.switch, self.high, self.low = None, [], []
+        self.switch, self.high, self.low, self.cancellable = None, [], [], []
         self.blocked, self.interesting = {}, 0
         self.table_use, self.live_handles, self.groups = 0, 0, set()
         self.wakes, self.moved, self.changes = None, [], []
@@ -251,6 +252,26 @@ class Moves:
         waited.waiters.remove(found[0])
         by_callback = found[0].why[0] == 'callback'
         self.queue(found[0], 'high', ('delivery', waited) if by_callback else ('resumption',))
+
+    def wakes_cancelled(self, thread):
+        """A thread that waits goes to switch, as a cancel takes it."""
+        thread.waited = (thread.object, thread.why)
+        thread.object.waiters.remove(thread)
+        self.queue(thread, 'switch', ('delivery', 'cancel') if thread.why[0] == 'callback' else ('resumption',))
+
+    def instead(self, thread, other):
+        """The cancel took the other thread, and not this one."""
+        callers, thread.callers = thread.callers, []
+        self.switch = None
+        waited, why = thread.waited
+        thread.why = why
+        waited.waiters.append(thread)
+        self.settle(thread, 'waiting', waited)
+        self.wakes_cancelled(other)
+        other.callers = callers
+        for caller in callers:
+            caller.object = other
+        return other
 
     def wait(self, thread, waited, how):
         """The thread waits on the set; `how` is `callback` or `op`."""

@@ -235,8 +235,11 @@ class Replay(Moves):
         return self.take_host(entry.work)
 
     def in_order(self, entry, wanted):
-        """The thread that is taken: of those that one release queued, whichever the label names."""
+        """The thread that is taken: of those that one release queued, or that a cancel could take, whichever the label names."""
         other = self.threads.get(wanted)
+        others, self.cancellable = self.cancellable, []
+        if entry.object == 'switch' and any(other is one for one in others):
+            return self.instead(entry, other)
         if other is entry or other is None or entry.batch == 0 or other.batch != entry.batch or other.place != 'queued':
             return entry
         place = self.high.index(other)
@@ -317,11 +320,11 @@ class Replay(Moves):
         self.runs(thread)
         return None
 
-    def event(self, thread, words, waited, by_callback, woken=None):
+    def event(self, thread, words, waited, by_callback, woken=None, cancellable=False):
         """What the task is given; `words` name the member that is. A woken thread that takes the own event hands its wake on."""
         call = thread.call
         own = call.own
-        if own == 'none' or own == 'cancelled' and by_callback:
+        if own == 'none' or own == 'cancelled' and (by_callback or cancellable):
             call.own = None
             call.delivered = call.delivered or own == 'cancelled'
             if waited is not None and waited.ready() and (woken or by_callback):

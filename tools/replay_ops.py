@@ -177,8 +177,9 @@ class Run(Replay):
     def do_wait(self, thread, name, operands, words):
         woken = thread.stage is not None
         waited = thread.stage[1] if woken else self.thing(thread, operands[1], Set, 'set')
-        if name == 'poll' or woken or thread.call.own == 'none' or waited.ready():
-            event = self.event(thread, words[1:], waited, False, woken)
+        cancellable = name == 'wait' and self.waits_cancellable(thread.call)
+        if name == 'poll' or woken or thread.call.own in ('none', 'cancelled' if cancellable else 'none') or waited.ready():
+            event = self.event(thread, words[1:], waited, False, woken, cancellable)
             if event is None and name == 'wait':
                 return self.waits(thread, waited, words)
             for place, value in enumerate(event or (0, 0, 0)):
@@ -328,12 +329,25 @@ class Run(Replay):
             return self.pauses(thread, words)
         return self.cancel_ends(thread, name, operands, subtask, words)
 
+    def waits_cancellable(self, call):
+        """Whether a `wait` of the task may take a cancel."""
+        return self.scenario.version == 2 and call.export.kind in ASYNC_KINDS
+
+    def waiting(self, call):
+        """The threads of the call that wait so that a cancel may take them."""
+        if self.waits_cancellable(call):
+            return [thread for thread in self.threads.values() if thread.call is call and thread.place == 'waiting']
+        thread = call.thread
+        return [thread] if thread.place == 'waiting' and thread.why[0] == 'callback' else []
+
     def ask(self, call):
-        """Gives a task that goes on its request; whether a callback of it now stands before the canceller."""
-        call.own, thread = 'cancelled', call.thread
-        if thread.place == 'waiting' and thread.why[0] == 'callback':
-            thread.object.waiters.remove(thread)
-            self.queue(thread, 'switch', ('delivery', 'cancel'))
+        """Gives a task that goes on its request; whether a thread of it now stands before the canceller."""
+        if self.scenario.version == 2 and call.asked:
+            raise Misfit(f'a cancel of {call.name()} was asked before, which is trap 5')
+        call.own, call.asked, thread = 'cancelled', True, call.thread
+        if waiting := self.waiting(call):
+            thread, *self.cancellable = waiting
+            self.wakes_cancelled(thread)
             return True
         if thread.place == 'queued' and thread.why == ('delivery', 'yield'):
             self.promote(thread)

@@ -50,6 +50,7 @@ class Scenario:
     """The parts of a text, by their names and places."""
 
     def __init__(self, lines):
+        self.version = int(lines[0].split()[1])
         self.handles, self.table, self.idle = int(lines[1].split()[1]), int(lines[2].split()[1]), lines[3].split()[1]
         self.hosts, self.instances, self.exports = {}, [], {}
         self.slots, self.main = {}, []

@@ -99,8 +99,8 @@ class Reader:
         self.starts, self.spawns, self.finished, self.main_ops, self.aborters = [], 0, set(), 0, 0
 
     def scenario(self, words):
-        if words != ['scenario', '1']:
-            raise Bad('the first line is `scenario 1`')
+        if words not in (['scenario', '1'], ['scenario', '2']):
+            raise Bad('the first line is `scenario 1` or `scenario 2`')
         self.takes = self.handles
 
     def handles(self, words):
@@ -290,7 +290,7 @@ class Reader:
             return 'the text ends in main: its last op, `answer X`, is missing, and then `end`'
         if self.takes == self.aborter:
             return 'the text ends before its last line, which is `end`'
-        for takes, line in ((self.scenario, '`scenario 1`'), (self.handles, '`handles N`'), (self.table, '`table N`'),
+        for takes, line in ((self.scenario, '`scenario 1` or `scenario 2`'), (self.handles, '`handles N`'), (self.table, '`table N`'),
                             (self.idle, '`idle trap` or `idle wait`')):
             if self.takes == takes:
                 return f'the text ends before its line {line}'

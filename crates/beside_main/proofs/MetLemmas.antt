@@ -10,7 +10,7 @@ use Rattle.std.proofs.Common.{ap, arith, inl, inr, refl, subst, sym, ◌∙◌}
 use Rattle.std.specs.Prelude.{Bool, Err, IfOk, List, None, Ok, Option, Result, Some, [], false, true, ℕ, ◌+◌, ◌++◌, ◌∷◌, ◌≡◌, ◌⊎◌}
 use Rattle.task_loop.specs.Beside.{HasMet, StepsBeside}
 use Rattle.task_loop.specs.HasRun.{Keeps, MayTakeTurn, setting, state}
-use Rattle.machine_data.specs.Core.{Core, Main, MainPlace, Scripted, State, Unscripted, Version}
+use Rattle.machine_data.specs.Core.{Core, Main, MainPlace, Scripted, State, Unscripted}
 use Rattle.machine_data.specs.declared.component.Component.{Component}
 use Rattle.machine_data.specs.declared.label.Label.{Label}
 use Rattle.machine_data.specs.declared.memory.NoMemory.{NoMemory}
@@ -28,10 +28,10 @@ use Rattle.machine_rules.specs.Works.{next_polled, poll_ends}
 
 -- ---- They end no run, and the state after them isn't at rest
 
-rests_not : (y : Setting) (v : Version) (k : Core) (m : Main) (b : Bool) → is_at_rest y (record { version = v; core = k; main = m; turn = settled_take true b }) ≡ false
+rests_not : (y : Setting) (k : Core) (m : Main) (b : Bool) → is_at_rest y (record { core = k; main = m; turn = settled_take true b }) ≡ false
 unfolding is_at_rest is_stalled is_idle
-rests_not y v k m true = refl
-rests_not y v k m false = refl
+rests_not y k m true = refl
+rests_not y k m false = refl
 
 main_rests_not : (y : Setting) (s : State) (k : Core) (m : Main) → is_at_rest y (at_turn s k m turn.Main) ≡ false
 unfolding is_at_rest is_stalled is_idle at_turn
@@ -39,7 +39,7 @@ main_rests_not y s k m = refl
 
 ended_rests_not : (y : Setting) (s : State) (k : Core) → is_at_rest y (goes_to s k (turn.Take true)) ≡ false
 unfolding at_turn
-ended_rests_not y s k = rests_not y s.version k s.main (queues_are_empty k)
+ended_rests_not y s k = rests_not y k s.main (queues_are_empty k)
 
 abbrev GoesOn : Label → State → Type 0
 GoesOn l t = (outcome_of_label l ≡ None) × ((y : Setting) → is_at_rest y t ≡ false)

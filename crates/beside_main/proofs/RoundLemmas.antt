@@ -69,7 +69,7 @@ module _ {E : Type 0} (c : Component) where
   polls_on x w n i found ended steps own a b going next polled = record {
     round = subst (λ (ls : List Label). InRound x w i (cond ended true found) steps b.left (with_poll x (at_take s) (polled_label ended i) own) ls (state gated_says course c (place b))) (sym polled.trace)
         (round_goes x w n i found ended steps b.left own a.trace s (state gated_says course c (place b))
-        (subst (λ (k : ℕ). InRound x w n found steps k own a.trace s) (sym polled.left) going.round) next polled.running refl
+        (subst (λ (k : ℕ). InRound x w n found steps k own a.trace s) (sym polled.left) going.round) next polled.running
         (ap (λ m. part_of m.script) polled.main) polled.core);
     turn = polled.turn ∙ by ended;
   }

@@ -55,6 +55,7 @@ pub(crate) fn begin<'a, G: Gate>(
     let mut store = new_store(
         alloc,
         (),
+        scenario.rules,
         scenario.component.instances.len(),
         scenario.handles,
         scenario.table,

@@ -6,7 +6,7 @@ use Rattle.core_records.proofs.StandLemmas.{item_by, item_here, number_is, same_
 use Rattle.core_records.specs.declared.{call_records.GuestTask.GuestTask, parts.CoreParts.CoreParts, single.Single.Single}
 
 module _ (a : CoreParts) (place n : ℕ) (has : HasNumber call_key a.calls place n) (some : 0 < n) where
-  placed : (q : Placed (Single GuestTask)) × ((place_at a.calls place ≡ Some q) × (q.entry.item.number ≡ n))
+  pub placed : (q : Placed (Single GuestTask)) × ((place_at a.calls place ≡ Some q) × (q.entry.item.number ≡ n))
   placed = stands_here (λ (g : GuestTask). g.number) (λ (g : GuestTask). g.call) a.calls place n has some
 
   pub call_there : IsSome (option_and_then (λ (p : Placed (Single GuestTask)). item_of p.entry) (place_at a.calls place))
@@ -16,7 +16,7 @@ module _ (a : CoreParts) (place n : ℕ) (has : HasNumber call_key a.calls place
   call_stands none = absurd (let there = subst (λ (o : Option GuestTask). IsSome o) (sym none) call_there in cc)
 
   module _ (sound : IsSoundCore a) (r : GuestTask) (is : Some r ≡ option_and_then (λ (p : Placed (Single GuestTask)). item_of p.entry) (place_at a.calls place)) where
-    call_item : Ok r ≡ item_at item_of a.calls place placed.0.serial
+    pub call_item : Ok r ≡ item_at item_of a.calls place placed.0.serial
     call_item = item_by (λ (g : GuestTask). g.number) (λ (g : GuestTask). g.call) a.calls place n has some r is place placed.0.serial placed.0.serial refl refl (sym (ap (option_map (λ (p : Placed (Single GuestTask)). p.serial)) placed.1.0))
 
     call_is : Some r.call ≡ get (seen a).core.calls n

@@ -2,8 +2,8 @@ ghost use Rattle.std.specs.Prelude.{◌≡◌, ◌<◌, false};
 ghost use Rattle.std.specs.Option.{option_map_or};
 ghost use Rattle.machine_data.specs.Maps.{get};
 ghost use Rattle.machine_data.specs.Moves.{is_finished};
-ghost use Rattle.machine_data.specs.Read.{callee_of, cancel_was_delivered, end_of, goal_of, kind_of, task_event_of, result_of, was_started};
-ghost use Rattle.machine_data.specs.Write.{set_cancel_delivered, set_end, set_exited, set_task_event, set_result, set_started, set_starting_published};
+ghost use Rattle.machine_data.specs.Read.{callee_of, cancel_was_asked, cancel_was_delivered, end_of, goal_of, kind_of, task_event_of, result_of, was_started};
+ghost use Rattle.machine_data.specs.Write.{set_cancel_asked, set_cancel_delivered, set_end, set_exited, set_task_event, set_result, set_started, set_starting_published};
 ghost use Rattle.core_records.specs.Seen.{IsSoundCore, seen};
 ghost use Rattle.machine_rules.specs.Takes.{starting_is_published};
 ghost use Rattle.core_primitives.specs.Groups.{tracked_group};
@@ -124,7 +124,18 @@ pub fn task_event(parts: &CoreParts, call: CallId) -> Option<TaskEvent>
     }
 }
 
-/// Returns whether the task was asked to cancel.
+/// Returns whether a cancel was asked of the call.
+pub fn cancel_was_asked(parts: &CoreParts, call: CallId) -> bool
+    requires { IsSoundCore parts.now }
+    ensures { result ≡ cancel_was_asked (call_of (seen parts.now) call) (seen parts.now).core }
+{
+    match core_records::call(parts, call) {
+        Some(entry) => entry.call.cancel_asked,
+        None => false,
+    }
+}
+
+/// Returns whether a cancel request was delivered to the task.
 pub fn cancel_was_delivered(parts: &CoreParts, call: CallId) -> bool
     requires { IsSoundCore parts.now }
     ensures { result ≡ cancel_was_delivered (call_of (seen parts.now) call) (seen parts.now).core }
@@ -246,6 +257,17 @@ pub fn set_task_event(parts: &mut CoreParts, call: CallId, event: Option<TaskEve
 {
     if let Ok(entry) = parts.calls.get_mut(call) {
         entry.call.task_event = event;
+    }
+}
+
+/// Records that a cancel was asked of the call.
+pub fn set_cancel_asked(parts: &mut CoreParts, call: CallId)
+    requires { IsSoundCore parts.old }
+    ensures sound { IsSoundCore parts.new }
+    ensures new { seen parts.new ≡ on_core (set_cancel_asked (call_of (seen parts.old) call)) (seen parts.old) }
+{
+    if let Ok(entry) = parts.calls.get_mut(call) {
+        entry.call.cancel_asked = true;
     }
 }
 

@@ -17,11 +17,11 @@ mod thread_handles;
 mod work_fields;
 
 pub use call_fields::{
-    call_number, callee, cancel_was_delivered, end_of, goal, goal_unchecked, group_unchecked,
-    is_finished, kind, kind_unchecked, result_of, set_cancel_delivered, set_end, set_end_unchecked,
-    set_exited, set_exited_unchecked, set_result, set_started, set_started_unchecked,
-    set_starting_published, set_task_event, starting_is_published, task_event, thread_group,
-    was_started,
+    call_number, callee, cancel_was_asked, cancel_was_delivered, end_of, goal, goal_unchecked,
+    group_unchecked, is_finished, kind, kind_unchecked, result_of, set_cancel_asked,
+    set_cancel_delivered, set_end, set_end_unchecked, set_exited, set_exited_unchecked, set_result,
+    set_started, set_started_unchecked, set_starting_published, set_task_event,
+    starting_is_published, task_event, thread_group, was_started,
 };
 pub use handle_fields::{new_handle, new_thread_handle, set_at, subtask_at, thread_at};
 pub use instance_fields::{

@@ -19,6 +19,7 @@ use Rattle.core_records.proofs.KeptLemmas.{used_is}
 use Rattle.core_records.proofs.KindLemmas.{item_stands, table_written}
 use Rattle.core_records.proofs.MakeLemmas.{number_kept, number_new, records_more, table_more}
 use Rattle.core_records.proofs.ReadLemmas.{call_shown}
+use Rattle.core_records.specs.Names.{keeps_waits}
 
 -- few are in a table
 pub places_few : {E X : Type 0} (key : E → Option (ℕ × X)) (t : Table E) → IsTable t → AreApart key t.places → length (records key t.places).list ≤ 4294967295
@@ -90,7 +91,7 @@ module _ (a : CoreParts) (sound : IsSoundCore a) where
         let few_works = places_few work_key (bare (parts_of a)).works tables_bare.works.table tables_bare.works.apart in
         omega arith
 
-    module _ (is : IsCallWithThread (bare (parts_of a)) (bare_call c) (bare_thread g)) (loose : AreCallAndThreadLoose (bare (parts_of a)) (call_nodes_of c) (nodes_of g)) where
+    module _ (is : IsCallWithThread (bare (parts_of a)) (bare_call c) (bare_thread g)) (loose : AreCallAndThreadLoose (bare (parts_of a)) (keeps_waits a.version c.call.kind) (call_nodes_of c) (nodes_of g)) where
       -- ---- What contracts see
 
       calls_are : records call_key (pushed (record { item = c }) a.calls).places ≡ insert (records call_key a.calls.places) c.number c.call

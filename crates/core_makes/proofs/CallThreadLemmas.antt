@@ -1,5 +1,5 @@
 -- A call more and its thread, whose nodes and chains hung on nothing: the parts stay whole.
-use Rattle.core_records.proofs.Core.{ap, AreChained, AreTables, arith, AtPlace, Call, call_key, cond, core_of, eq-eqb, get, group_key, HasHome, HaveRowNodes, op_progress_target, OpProgress, IsCallNamed, IsWhole, Join, join_target, key_in, kinds, ne_eqb, no_callee, number_in, Option, option_map_or, CoreImage, Place, place_at, place_target, Placed, pushed, ready_in, refl, Some, Status, subst, sym, thread_key, where_at, ℕ, ◌+◌, ◌<◌, ◌==◌, ◌∙◌, ◌≡◌, ExportKind}
+use Rattle.core_records.proofs.Core.{ap, AreChained, AreTables, arith, AtPlace, Call, call_key, cond, core_of, eq-eqb, get, group_key, HasHome, HaveRowNodes, op_progress_target, OpProgress, IsCallNamed, IsWhole, Join, join_target, key_in, kinds, ne_eqb, no_callee, number_in, Option, option_map_or, CoreImage, Place, place_at, place_target, Placed, pushed, ready_in, refl, Some, Status, subst, sym, thread_key, where_at, ℕ, ◌+◌, ◌<◌, ◌==◌, ◌∙◌, ◌≡◌, ExportKind, Bool}
 use Rattle.core_records.specs.declared.{call_records.GuestTask.GuestTask, call_records.TaskGroup.TaskGroup, single.Single.Single, thread_records.GuestThread.GuestThread}
 use Rattle.core_makes.proofs.FreshLemmas.{each_more}
 use Rattle.core_makes.proofs.MoreLemmas.{at_new, early_at, get_more, number_stays, number_written}
@@ -12,8 +12,9 @@ use Rattle.core_makes.specs.LooseCalls.{AreCallLoose, AreThreadLoose}
 use Rattle.core_makes.specs.CallThread.{IsCallWithThread}
 use Rattle.core_records.proofs.MakeLemmas.{stands_more}
 use Rattle.core_primitives.specs.Barred.{bars_start}
+use Rattle.core_records.specs.Names.{keeps_waits}
 
-module _ (p : CoreImage) (whole : IsWhole p) (tables : AreTables p) (c : GuestTask) (g : GuestThread) (is : IsCallWithThread p c g) (call_loose : AreCallLoose p (call_nodes_of c)) (loose : AreThreadLoose p (nodes_of g)) (two : g.under ≡ c.blocked → ⊥)
+module _ (p : CoreImage) (whole : IsWhole p) (tables : AreTables p) (c : GuestTask) (g : GuestThread) (is : IsCallWithThread p c g) (call_loose : AreCallLoose p (keeps_waits p.version c.call.kind) (call_nodes_of c)) (loose : AreThreadLoose p (keeps_waits p.version c.call.kind) (nodes_of g)) (two : g.under ≡ c.blocked → ⊥)
     (rep : ℕ) (q : Placed (Single TaskGroup)) (at : place_at p.groups rep ≡ Some q) (place : c.group ≡ rep) (of_group : q.entry.item.number ≡ c.call.group) where
   abbrev pub after : CoreImage
   after = with_call_thread p whole tables.threads tables.calls g is.thread_next c is.call_next tables.groups rep q at
@@ -27,32 +28,44 @@ module _ (p : CoreImage) (whole : IsWhole p) (tables : AreTables p) (c : GuestTa
   named : PlacesNamed (kinds p) p.threads
   named r w w_at = (whole.named.threads r w w_at).place
 
+  -- whether the call's waiting threads are kept beside the sets
+  abbrev keeps : Bool
+  keeps = keeps_waits p.version c.call.kind
+
+  -- no thread is of the call yet
+  nobody : (r : ℕ) (w : Placed (Single GuestThread)) → place_at p.threads r ≡ Some w → w.entry.item.thread.call ≡ c.number → ⊥
+  nobody r w w_at same =
+      let home = whole.named.threads r w w_at in
+      let within = early_at (λ (d : GuestTask). d.number) (λ (d : GuestTask). d.call) p.calls p.made.threads tables.calls w.entry.item.task w.entry.item.thread.call home.call home.there in
+      absurd (omega (arith, within, later, same))
+
   -- ---- Chains and nodes: the call first
 
   abbrev with_calls : CoreImage
   with_calls = record p { calls = pushed (record { item = c }) p.calls }
 
-  still_loose : AreThreadLoose with_calls (nodes_of g)
+  still_loose : AreThreadLoose with_calls keeps (nodes_of g)
   still_loose = record {
+    wait = record { is = loose.wait.is; made = loose.wait.made; free = loose.wait.free; apart = loose.wait.apart };
     node = loose.node;
     mark = loose.mark;
     instance_queue = loose.instance_queue;
     caller = loose.caller;
     callers = record { empty = loose.callers.empty; apart = loose.callers.apart };
-    under = record { empty = loose.under.empty; apart = nobody_still p c tables.calls.table tables.calls.apart (tables.calls.later c.number later) call_loose g.under two loose.under.apart };
+    under = record { empty = loose.under.empty; apart = nobody_still p c keeps tables.calls.table tables.calls.apart (tables.calls.later c.number later) call_loose g.under two loose.under.apart };
     no_work = loose.no_work;
   }
 
   chained : AreChained after
   chained =
-      let first = call_chained p c tables.calls.table tables.calls.apart (tables.calls.later c.number later) call_loose (kinds p) later named (ap (λ (e : Option Status). ready_in e c.call.join) is.eventless) whole.chained in
-      let both = thread_chained with_calls g tables.threads.table tables.threads.apart (tables.threads.later g.number thread_later) still_loose (kinds p) thread_later named (ap (where_at g.instance g.barred) is.unplaced) first in
-      record { places = both.places; ready_calls = both.ready_calls; ready_works = both.ready_works; polled = both.polled; rising = both.rising; marks = both.marks; instance_queues = both.instance_queues; low = both.low; behind = both.behind }
+      let first = call_chained p c keeps tables.calls.table tables.calls.apart (tables.calls.later c.number later) call_loose (kinds p) later named nobody (ap (λ (e : Option Status). ready_in e c.call.join) is.eventless) whole.chained in
+      let both = thread_chained with_calls g keeps tables.threads.table tables.threads.apart (tables.threads.later g.number thread_later) still_loose (kinds p) thread_later named (ap (where_at g.instance g.barred) is.unplaced) first in
+      record { places = both.places; waits = both.waits; ready_calls = both.ready_calls; ready_works = both.ready_works; polled = both.polled; rising = both.rising; marks = both.marks; instance_queues = both.instance_queues; low = both.low; behind = both.behind }
 
   nodes : HaveRowNodes after
   nodes =
-      let first = call_nodes p c tables.calls.table tables.calls.apart (tables.calls.later c.number later) call_loose whole.nodes in
-      let both = thread_nodes with_calls g tables.threads.table tables.threads.apart (tables.threads.later g.number thread_later) still_loose first in
+      let first = call_nodes p c keeps tables.calls.table tables.calls.apart (tables.calls.later c.number later) call_loose whole.nodes in
+      let both = thread_nodes with_calls g keeps tables.threads.table tables.threads.apart (tables.threads.later g.number thread_later) still_loose first in
       record { marks = both.marks; instance_queues = both.instance_queues; callers = both.callers; works = both.works; apart = both.apart }
 
   -- ---- Names
@@ -79,6 +92,7 @@ module _ (p : CoreImage) (whole : IsWhole p) (tables : AreTables p) (c : GuestTa
     there = let next = is.call_next in let same = is.first in omega arith;
     instance = ap (λ (o : Option Call). (option_map_or (λ (d : Call). d.callee) o no_callee).instance) (get_call g.thread.call ∙ ap (λ b. cond b (Some c.call) (get (core_of p).calls g.thread.call)) (eq-eqb g.thread.call c.number is.first)) ∙ sym is.instance;
     barred = ap (λ (o : Option Call). bars_start g.thread.explicit (option_map_or (λ (d : Call). d.kind) o ExportKind.Callback)) (get_call g.thread.call ∙ ap (λ b. cond b (Some c.call) (get (core_of p).calls g.thread.call)) (eq-eqb g.thread.call c.number is.first)) ∙ is.barred;
+    waits = ap (λ (o : Option Call). keeps_waits p.version (option_map_or (λ (d : Call). d.kind) o ExportKind.Callback)) (get_call g.thread.call ∙ ap (λ b. cond b (Some c.call) (get (core_of p).calls g.thread.call)) (eq-eqb g.thread.call c.number is.first)) ∙ sym loose.wait.is;
     within = is.within;
     place = subst (λ (x : Place). AtPlace after g.state_target (place_target x)) (sym is.unplaced) tt;
     op_progress = subst (λ (x : OpProgress). AtPlace after g.op_target (op_progress_target x)) (sym is.fresh) tt;
@@ -91,6 +105,7 @@ module _ (p : CoreImage) (whole : IsWhole p) (tables : AreTables p) (c : GuestTa
     join = subst (λ (x : Join). AtPlace after c.joined (join_target x)) (sym is.nowhere) tt;
     group = number_written p.groups rep q at (record q.entry.item { calls = q.entry.item.calls + 1 }) group_key refl c.group c.call.group (ap (λ o. number_in (key_in group_key o)) (ap (place_at p.groups) place ∙ at) ∙ of_group);
     positive = subst (λ (n : ℕ). 0 < n) of_group (number_positive (λ (r : TaskGroup). r.number) (λ (r : TaskGroup). r.calls) p.groups p.made.groups tables.groups rep q at);
+    waits = sym call_loose.waits.is;
   }
 
   pub call_thread_whole : IsWhole after

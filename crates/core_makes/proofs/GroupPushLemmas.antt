@@ -1,5 +1,5 @@
 -- A group more: the parts stay whole, and contracts see just that.
-use Rattle.core_records.proofs.Core.{AreEnded, Global, tracked_of, with_group as grouped_view, [], add_group, ap, ap₂, arith, bare, Call, call_key, calls_of, core_of, false, filter, filter-append, filter-one, fits, get, get-records, group_key, HasHome, HasNumber, insert, is_of_group, IsCallNamed, IsGroupKept, IsSoundCore, IsTable, IsWhole, IsWorkNamed, key_in, kinds, length, length-append, List, nat_lt, ne_eqb, None, numbers, on_core, Option, option_map_or, CoreImage, parts_of, place_at, Placed, pushed, Records, records, refl, same_Some, seen, Some, SoundTable, subst, sym, Table, table_use, true, Work, work_key, ℕ, ◌++◌, ◌+◌, ◌<◌, ◌==◌, ◌^◌, ◌∙◌, ◌∷◌, ◌≡◌, ◌≤◌}
+use Rattle.core_records.proofs.Core.{AreEnded, Global, tracked_of, with_group as grouped_view, [], add_group, ap, ap₂, arith, bare, Call, call_key, calls_of, core_of, false, filter, filter-append, filter-one, fits, get, get-records, group_key, HasHome, HasNumber, insert, is_of_group, IsCallNamed, IsGroupKept, IsSoundCore, IsTable, IsWhole, IsWorkNamed, key_in, kinds, length, length-append, List, nat_lt, ne_eqb, None, numbers, Option, option_map_or, CoreImage, parts_of, place_at, Placed, pushed, Records, records, refl, same_Some, seen, Some, SoundTable, subst, sym, Table, table_use, true, Work, work_key, ℕ, ◌++◌, ◌+◌, ◌<◌, ◌==◌, ◌^◌, ◌∙◌, ◌∷◌, ◌≡◌, ◌≤◌}
 use Rattle.core_records.specs.declared.{call_records.GuestTask.GuestTask, call_records.TaskGroup.TaskGroup, parts.CoreParts.CoreParts, single.Single.Single, thread_records.GuestThread.GuestThread, work_records.WorkRecord.WorkRecord}
 use Rattle.core_makes.proofs.FreshLemmas.{each_more, none_passing}
 use Rattle.core_makes.proofs.MoreLemmas.{early_at, number_stays}
@@ -68,10 +68,10 @@ module _ (p : CoreImage) (whole : IsWhole p) (groups : SoundTable group_key p.gr
   group_still = number_stays p.groups (new_group next entry) groups.table group_key
 
   home_still : (g : GuestThread) → HasHome p g → HasHome with_group g
-  home_still g h = record { call = h.call; there = h.there; instance = h.instance; barred = h.barred; within = h.within; place = h.place; op_progress = h.op_progress }
+  home_still g h = record { call = h.call; there = h.there; instance = h.instance; barred = h.barred; waits = h.waits; within = h.within; place = h.place; op_progress = h.op_progress }
 
   call_still : (c : GuestTask) → IsCallNamed p c → IsCallNamed with_group c
-  call_still c h = record { caller = h.caller; first = h.first; join = h.join; group = group_still c.group c.call.group h.group h.positive; positive = h.positive }
+  call_still c h = record { caller = h.caller; first = h.first; join = h.join; group = group_still c.group c.call.group h.group h.positive; positive = h.positive; waits = h.waits }
 
   work_still : (w : WorkRecord) → IsWorkNamed p w → IsWorkNamed with_group w
   work_still w h = record { caller = h.caller; join = h.join; group = λ n is. let one = h.group n is in (group_still w.group n one.0 one.1, one.1) }
@@ -93,6 +93,7 @@ module _ (p : CoreImage) (whole : IsWhole p) (groups : SoundTable group_key p.gr
     };
     chained = record {
       places = whole.chained.places;
+      waits = whole.chained.waits;
       ready_calls = whole.chained.ready_calls;
       ready_works = whole.chained.ready_works;
       polled = whole.chained.polled;

@@ -1,6 +1,6 @@
 -- A thread more, with other tables of calls and of groups: what is named is where it was.
 use Rattle.machine_data.specs.Read.{kind_of}
-use Rattle.core_records.proofs.Core.{ap, AreNamed, arith, AtPlace, call_instance, call_key, CallOf, core_of, EachEntry, follower, group_key, HasHome, HasNumber, IfSome, IsCallNamed, IsFollower, IsWorkNamed, None, Nothing, Option, CoreImage, pushed, SetOf, Some, SoundTable, StandsAt, Table, Target, thread_key, ThreadOf, WorkOf, ℕ, ◌+◌, ◌<◌, ◌∙◌, ◌≡◌, ◌≤◌}
+use Rattle.core_records.proofs.Core.{ap, AreNamed, arith, AtPlace, call_instance, call_key, CallOf, core_of, EachEntry, follower, group_key, HasHome, HasNumber, IfSome, IsCallNamed, IsFollower, IsWorkNamed, None, Nothing, Option, CoreImage, pushed, SetOf, Some, SoundTable, StandsAt, Table, Target, thread_key, ThreadOf, WorkOf, ℕ, ◌+◌, ◌<◌, ◌∙◌, ◌≡◌, ◌≤◌, keeps_waits}
 use Rattle.core_records.specs.declared.{call_records.GuestTask.GuestTask, call_records.TaskGroup.TaskGroup, parts.CachedCounts.CachedCounts, single.Single.Single, thread_records.Follower.Follower, thread_records.GuestThread.GuestThread, work_records.WorkRecord.WorkRecord}
 use Rattle.core_makes.proofs.FreshLemmas.{each_more}
 use Rattle.core_makes.proofs.MoreLemmas.{order_key_stays}
@@ -32,13 +32,14 @@ module _ (p : CoreImage) (g : GuestThread) (threads : SoundTable thread_key p.th
     there = home.there;
     instance = grows.instance h.task h.thread.call home.call home.there ∙ home.instance;
     barred = ap (bars_start h.thread.explicit) (grows.kind h.task h.thread.call home.call home.there) ∙ home.barred;
+    waits = ap (keeps_waits p.version) (grows.kind h.task h.thread.call home.call home.there) ∙ home.waits;
     within = home.within;
     place = at_grown h.state_target _ home.place;
     op_progress = at_grown h.op_target _ home.op_progress;
   }
 
   pub call_grown : (c : GuestTask) → IsCallNamed p c → IsCallNamed grown c
-  call_grown c named = record { caller = at_grown c.maker _ named.caller; first = at_grown c.first (ThreadOf c.number) named.first; join = at_grown c.joined _ named.join; group = grows.group c.group c.call.group named.group named.positive; positive = named.positive }
+  call_grown c named = record { caller = at_grown c.maker _ named.caller; first = at_grown c.first (ThreadOf c.number) named.first; join = at_grown c.joined _ named.join; group = grows.group c.group c.call.group named.group named.positive; positive = named.positive; waits = named.waits }
 
   group_grown : (rep n : ℕ) → HasNumber group_key p.groups rep n × (0 < n) → HasNumber group_key groups rep n × (0 < n)
   group_grown rep n has = (grows.group rep n has.0 has.1, has.1)

@@ -107,10 +107,10 @@ module _ (p : CoreImage) (whole : IsWhole p) (r : InstanceRecord) (loose : AreLo
   next = length p.instances
 
   home_grown : (g : GuestThread) → HasHome p g → HasHome grown g
-  home_grown g h = record { call = h.call; there = h.there; instance = h.instance; barred = h.barred; within = there_still p.instances r g.instance h.within; place = h.place; op_progress = h.op_progress }
+  home_grown g h = record { call = h.call; there = h.there; instance = h.instance; barred = h.barred; waits = h.waits; within = there_still p.instances r g.instance h.within; place = h.place; op_progress = h.op_progress }
 
   call_grown : (g : GuestTask) → IsCallNamed p g → IsCallNamed grown g
-  call_grown g h = record { caller = h.caller; first = h.first; join = h.join; group = h.group; positive = h.positive }
+  call_grown g h = record { caller = h.caller; first = h.first; join = h.join; group = h.group; positive = h.positive; waits = h.waits }
 
   work_grown : (w : WorkRecord) → IsWorkNamed p w → IsWorkNamed grown w
   work_grown w h = record { caller = h.caller; join = h.join; group = h.group }
@@ -140,11 +140,11 @@ module _ (p : CoreImage) (whole : IsWhole p) (r : InstanceRecord) (loose : AreLo
   starts_others (BlockedOn (Subtask.Guest k)) other = refl
   starts_others (BlockedOn (Subtask.Host i)) other = refl
 
-  none_held : (w : Where) → IsHeldList next w → (rep : ℕ) (f : Filing Where OrderKey) → filings place_filing p.threads rep ≡ Some f → f.key ≡ Some w → ⊥
+  none_held : (w : Where) → IsHeldList next w → (rep : ℕ) (f : Filing Where OrderKey) → filings (place_filing p.version) p.threads rep ≡ Some f → f.key ≡ Some w → ⊥
   unfolding filings
   none_held w list rep f is key = by_place (place_at p.threads rep) refl is
     where
-      by_place : (o : Option (Placed (Single GuestThread))) → place_at p.threads rep ≡ o → said place_filing rep o ≡ Some f → ⊥
+      by_place : (o : Option (Placed (Single GuestThread))) → place_at p.threads rep ≡ o → said (place_filing p.version) rep o ≡ Some f → ⊥
       by_place None at is = absurd (cc)
       by_place (Some q) at is =
           let g = q.entry.item in
@@ -154,8 +154,8 @@ module _ (p : CoreImage) (whole : IsWhole p) (r : InstanceRecord) (loose : AreLo
   held_new : held_alone (HeldIn next) ≡ Some r.held
   held_new = ap (option_map (λ (x : InstanceRecord). x.held)) (pushed_last p.instances r)
 
-  held_index : IsIndex held_alone p.places (filings place_filing p.threads)
-  held_index = IsIndex-opened (place_chain p) held_alone p.places (HeldIn next) (held_is next) held_others r.held held_new loose.held (filings place_filing p.threads) whole.chained.places (none_held (HeldIn next) (inl refl))
+  held_index : IsIndex held_alone p.places (filings (place_filing p.version) p.threads)
+  held_index = IsIndex-opened (place_chain p) held_alone p.places (HeldIn next) (held_is next) held_others r.held held_new loose.held (filings (place_filing p.version) p.threads) whole.chained.places (none_held (HeldIn next) (inl refl))
 
   starts_apart : (k : Where) → held_alone k ≡ Some r.starts → ⊥
   starts_apart k at = elim (held_is next k) [
@@ -163,8 +163,8 @@ module _ (p : CoreImage) (whole : IsWhole p) (r : InstanceRecord) (loose : AreLo
     | inr other ↦ loose.starts.apart k (sym (held_others k other) ∙ at)
   ]
 
-  places_grown : IsIndex (place_chain grown) p.places (filings place_filing p.threads)
-  places_grown = IsIndex-opened held_alone (place_chain grown) p.places (StartsIn next) (starts_is next) starts_others r.starts (ap (option_map (λ (x : InstanceRecord). x.starts)) (pushed_last p.instances r)) (record { empty = loose.starts.empty; apart = starts_apart }) (filings place_filing p.threads) held_index (none_held (StartsIn next) (inr refl))
+  places_grown : IsIndex (place_chain grown) p.places (filings (place_filing p.version) p.threads)
+  places_grown = IsIndex-opened held_alone (place_chain grown) p.places (StartsIn next) (starts_is next) starts_others r.starts (ap (option_map (λ (x : InstanceRecord). x.starts)) (pushed_last p.instances r)) (record { empty = loose.starts.empty; apart = starts_apart }) (filings (place_filing p.version) p.threads) held_index (none_held (StartsIn next) (inr refl))
 
   -- ---- Its entries at the marks
 
@@ -230,6 +230,7 @@ module _ (p : CoreImage) (whole : IsWhole p) (r : InstanceRecord) (loose : AreLo
     };
     chained = record {
       places = places_grown;
+      waits = whole.chained.waits;
       ready_calls = whole.chained.ready_calls;
       ready_works = whole.chained.ready_works;
       polled = whole.chained.polled;

@@ -53,11 +53,11 @@ module _ {K P : Type 0} (chain : K → Option ℕ) where
 module _ (a b e c d : CoreParts) (h s i l : ℕ) (sound_a : IsSoundCore a) (sound_b : IsSoundCore b) (sound_e : IsSoundCore e) (sound_c : IsSoundCore c) (only_b : b ≡ record a { places = b.places }) (only_e : e ≡ record b { places = e.places }) (only_c : c ≡ record e { instance_queues = c.instance_queues }) (only_d : d ≡ record c { instance_queues = d.instance_queues }) (made_h : Renames a.places b.places h Unmade (ChainOf [])) (made_s : Renames b.places e.places s Unmade (ChainOf [])) (made_i : Renames e.instance_queues c.instance_queues i Unmade (ChainOf [])) (made_l : Renames c.instance_queues d.instance_queues l Unmade (ChainOf [])) where
   held_new : IsLoose (place_chain (bare (parts_of a))) b.places h
   unfolding IsSoundCore
-  held_new = loose_index (place_chain (bare (parts_of a))) a.places b.places (filings place_filing (bare (parts_of a)).threads) sound_a.whole.chained.places h made_h
+  held_new = loose_index (place_chain (bare (parts_of a))) a.places b.places (filings (place_filing a.version) (bare (parts_of a)).threads) sound_a.whole.chained.places h made_h
 
   starts_new : IsLoose (place_chain (bare (parts_of b))) e.places s
   unfolding IsSoundCore
-  starts_new = loose_index (place_chain (bare (parts_of b))) b.places e.places (filings place_filing (bare (parts_of b)).threads) sound_b.whole.chained.places s made_s
+  starts_new = loose_index (place_chain (bare (parts_of b))) b.places e.places (filings (place_filing b.version) (bare (parts_of b)).threads) sound_b.whole.chained.places s made_s
 
   held_b : IsLoose (place_chain (bare (parts_of b))) b.places h
   held_b = subst (λ (x : CoreParts). IsLoose (place_chain (bare (parts_of x))) b.places h) (sym only_b) held_new
@@ -100,7 +100,7 @@ module _ (a b e c d : CoreParts) (h s i l : ℕ) (sound_a : IsSoundCore a) (soun
 module _ (a b c d : CoreParts) (x : WaitSet) (sound_a : IsSoundCore a) (sound_b : IsSoundCore b) (sound_c : IsSoundCore c) (only_b : b ≡ record a { places = b.places }) (only_c : c ≡ record b { ready_calls = c.ready_calls }) (only_d : d ≡ record c { ready_works = d.ready_works }) (made_w : Renames a.places b.places x.waiters Unmade (ChainOf [])) (made_c : Renames b.ready_calls c.ready_calls x.ready_calls Unmade (ChainOf [])) (made_d : Renames c.ready_works d.ready_works x.ready_works Unmade (ChainOf [])) where
   waiters_new : IsLoose (place_chain (bare (parts_of a))) b.places x.waiters
   unfolding IsSoundCore
-  waiters_new = loose_index (place_chain (bare (parts_of a))) a.places b.places (filings place_filing (bare (parts_of a)).threads) sound_a.whole.chained.places x.waiters made_w
+  waiters_new = loose_index (place_chain (bare (parts_of a))) a.places b.places (filings (place_filing a.version) (bare (parts_of a)).threads) sound_a.whole.chained.places x.waiters made_w
 
   calls_new : IsLoose (ready_call_chain (bare (parts_of b))) c.ready_calls x.ready_calls
   unfolding IsSoundCore

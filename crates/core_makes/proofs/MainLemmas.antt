@@ -1,5 +1,5 @@
 -- A call by main: what the makes of its group and of its records result in, and what is left where one fails.
-use Rattle.core_records.proofs.Core.{call_number, Keeps, KeepsWith, set_number, StateView, Tags, thread_number, with_group, work_number, [], add_group, ap, ap₂, arith, bare, Core, deleted, fits, IsSoundCore, IsTable, length-append, MadeCounts, next_place, CoreImage, parts_of, pushed, subst, Table, table_use, true, ℕ, ◌+◌, ◌-◌, ◌∙◌, ◌∷◌, ◌≡◌, ◌≤◌}
+use Rattle.core_records.proofs.Core.{call_number, Keeps, KeepsWith, set_number, StateView, Tags, thread_number, with_group, work_number, [], add_group, ap, ap₂, arith, bare, Core, deleted, fits, IsSoundCore, IsTable, length-append, MadeCounts, next_place, CoreImage, parts_of, pushed, subst, Table, table_use, true, ℕ, ◌+◌, ◌-◌, ◌∙◌, ◌∷◌, ◌≡◌, ◌≤◌, Bool}
 use Rattle.core_records.specs.declared.{call_records.TaskGroup.TaskGroup, parts.CoreParts.CoreParts, parts.CachedCounts.CachedCounts, single.Single.Single}
 use Rattle.core_makes.proofs.RestoreLemmas.{Restores-deleted, restored_from}
 use Rattle.core_makes.specs.Restored.{IsRestored, Restores}
@@ -25,10 +25,10 @@ keeps_grouped s new kept = record { threads = kept.threads; calls = kept.calls; 
 
 -- ---- Nodes that hang on nothing hang on nothing beside another group
 
-pub call_thread_loose_beside : (a : CoreParts) (groups : Table (Single TaskGroup)) (made : MadeCounts) (kept : CachedCounts) (c : CallNodes) (t : ThreadNodes) → AreCallAndThreadLoose (bare (parts_of a)) c t → AreCallAndThreadLoose (bare (parts_of (record a { groups = groups; made = made; kept = kept }))) c t
-call_thread_loose_beside a groups made kept c t loose = record {
-  call = record { ready = loose.call.ready; blocked = loose.call.blocked };
-  thread = record { node = loose.thread.node; mark = loose.thread.mark; instance_queue = loose.thread.instance_queue; caller = loose.thread.caller; callers = loose.thread.callers; under = loose.thread.under; no_work = loose.thread.no_work };
+pub call_thread_loose_beside : (a : CoreParts) (groups : Table (Single TaskGroup)) (made : MadeCounts) (kept : CachedCounts) (keeps : Bool) (c : CallNodes) (t : ThreadNodes) → AreCallAndThreadLoose (bare (parts_of a)) keeps c t → AreCallAndThreadLoose (bare (parts_of (record a { groups = groups; made = made; kept = kept }))) keeps c t
+call_thread_loose_beside a groups made kept keeps c t loose = record {
+  call = record { waits = record { is = loose.call.waits.is; loose = loose.call.waits.loose }; ready = loose.call.ready; blocked = loose.call.blocked };
+  thread = record { wait = record { is = loose.thread.wait.is; made = loose.thread.wait.made; free = loose.thread.wait.free; apart = loose.thread.wait.apart }; node = loose.thread.node; mark = loose.thread.mark; instance_queue = loose.thread.instance_queue; caller = loose.thread.caller; callers = loose.thread.callers; under = loose.thread.under; no_work = loose.thread.no_work };
   two = loose.two;
 }
 

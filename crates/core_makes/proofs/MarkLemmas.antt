@@ -18,10 +18,10 @@ module _ (p : CoreImage) (whole : IsWhole p) (high low : Option ℕ) where
   marked = record p { high = high; low = low }
 
   home_same : (g : GuestThread) → HasHome p g → HasHome marked g
-  home_same g h = record { call = h.call; there = h.there; instance = h.instance; barred = h.barred; within = h.within; place = h.place; op_progress = h.op_progress }
+  home_same g h = record { call = h.call; there = h.there; instance = h.instance; barred = h.barred; waits = h.waits; within = h.within; place = h.place; op_progress = h.op_progress }
 
   call_same : (g : GuestTask) → IsCallNamed p g → IsCallNamed marked g
-  call_same g h = record { caller = h.caller; first = h.first; join = h.join; group = h.group; positive = h.positive }
+  call_same g h = record { caller = h.caller; first = h.first; join = h.join; group = h.group; positive = h.positive; waits = h.waits }
 
   work_same : (w : WorkRecord) → IsWorkNamed p w → IsWorkNamed marked w
   work_same w h = record { caller = h.caller; join = h.join; group = h.group }
@@ -39,6 +39,7 @@ module _ (p : CoreImage) (whole : IsWhole p) (high low : Option ℕ) where
       };
       chained = record {
         places = whole.chained.places;
+        waits = whole.chained.waits;
         ready_calls = whole.chained.ready_calls;
         ready_works = whole.chained.ready_works;
         polled = whole.chained.polled;

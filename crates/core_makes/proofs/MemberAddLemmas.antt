@@ -1,5 +1,5 @@
 -- A thread more of a call that is there, as a core: it is sound, contracts see just that, and it can be taken back.
-use Rattle.core_records.proofs.Core.{add_thread, ap, ap₂, arith, AtPlace, bare, bare_call, bare_thread, Call, call_key, call_number, core_of, count_by-le-length, deleted, fits, GuestTaskKey, IsSoundCore, IsTable, IsWhole, item_at, item_of, Keeps, kinds, length, List, mapped, mapped-pushed, mapped-with_entry, named, next_place, None, Ok, on_item, Option, OwnsHandle, CoreImage, parts_of, passing, place_at, place_at-mapped, Placed, placed_as, pushed, Records, records, refl, seen, set_number, size, slice_get, Some, SoundTable, subst, sym, Table, table_use, TableId, Tag, tags_in, Target, Thread, thread_key, thread_of, ThreadKey, threads_of, true, with_entry, work_number, ℕ, ◌+◌, ◌-◌, ◌<◌, ◌==◌, ◌^◌, ◌∙◌, ◌≡◌, ◌≤◌}
+use Rattle.core_records.proofs.Core.{add_thread, ap, ap₂, arith, AtPlace, bare, bare_call, bare_thread, Call, call_key, call_number, core_of, count_by-le-length, deleted, fits, GuestTaskKey, IsSoundCore, IsTable, IsWhole, item_at, item_of, Keeps, kinds, length, List, mapped, mapped-pushed, mapped-with_entry, named, next_place, None, Ok, on_item, Option, OwnsHandle, CoreImage, parts_of, passing, place_at, place_at-mapped, Placed, placed_as, pushed, Records, records, refl, seen, set_number, size, slice_get, Some, SoundTable, subst, sym, Table, table_use, TableId, Tag, tags_in, Target, Thread, thread_key, thread_of, ThreadKey, threads_of, true, with_entry, work_number, ℕ, ◌+◌, ◌-◌, ◌<◌, ◌==◌, ◌^◌, ◌∙◌, ◌≡◌, ◌≤◌, is_some}
 use Rattle.core_records.specs.declared.{call_records.GuestTask.GuestTask, parts.CoreParts.CoreParts, single.Single.Single, thread_records.GuestThread.GuestThread}
 use Rattle.core_makes.proofs.FreshLemmas.{each_more}
 use Rattle.core_makes.proofs.RestoreLemmas.{Restores-deleted, Restores-pushed, Restores-same, Restores-written, handles_grown, restored_from}
@@ -66,7 +66,7 @@ module _ (a : CoreParts) (sound : IsSoundCore a) where
     calls_same : records call_key member.calls.places ≡ records call_key a.calls.places
     calls_same = records_unseen call_key a.calls id.rep placed.0 placed.1.0 (record { item = one_more }) (ap (λ (e : Single GuestTask). call_key e) (sym placed.1.1.1))
 
-    module _ (is : IsMember (bare (parts_of a)) (bare_call c) id.rep (bare_thread g)) (loose : AreThreadLoose (bare (parts_of a)) (nodes_of g)) where
+    module _ (is : IsMember (bare (parts_of a)) (bare_call c) id.rep (bare_thread g)) (loose : AreThreadLoose (bare (parts_of a)) (is_some c.waits) (nodes_of g)) where
       -- ---- What contracts see
 
       pub member_core : (seen member).core ≡ add_thread g.thread (seen a).core

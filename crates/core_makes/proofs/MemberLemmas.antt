@@ -1,5 +1,5 @@
 -- A thread more of a call that is there: the parts stay whole.
-use Rattle.core_records.proofs.Core.{ap, AreChained, AreCounted, AreTables, arith, AtPlace, blocked_key, BlockedOn, Bool, Call, call_key, core_of, EachEntry, eq-eqb, filings, found_record, found_record_at, get, get-records, HasHome, HaveRowNodes, HeldIn, op_progress_target, OpProgress, is_in_set, IsCallKept, IsCallNamed, IsIndex-same_chains, IsIndex-with_entry_same, IsSetKept, IsSome, IsWhole, keeps_set, key_in, kinds, ne_eqb, no_callee, number_in, one_if_passes, Option, option_map_or, CoreImage, passing, Place, place_at, place_chain, place_filing, place_target, Placed, pushed, ready_call, ready_call_chain, Records, records, refl, size, Some, subst, Subtask, sym, Table, table_use, Thread, UnderOf, WaitsOn, Where, where_at, with_entry, ℕ, ◌+◌, ◌<◌, ◌==◌, ◌∙◌, ◌≡◌, StartsIn, ExportKind}
+use Rattle.core_records.proofs.Core.{ap, AreChained, AreCounted, AreTables, arith, AtPlace, blocked_key, BlockedOn, Bool, Call, call_key, core_of, EachEntry, eq-eqb, filings, found_record, found_record_at, get, get-records, HasHome, HaveRowNodes, HeldIn, op_progress_target, OpProgress, is_in_set, IsCallKept, IsCallNamed, IsIndex-same_chains, IsIndex-with_entry_same, IsSetKept, IsSome, IsWhole, keeps_set, key_in, kinds, ne_eqb, no_callee, number_in, one_if_passes, Option, option_map_or, CoreImage, passing, Place, place_at, place_chain, place_filing, place_target, Placed, pushed, ready_call, ready_call_chain, Records, records, refl, size, Some, subst, Subtask, sym, Table, table_use, Thread, UnderOf, WaitsOn, Where, where_at, with_entry, ℕ, ◌+◌, ◌<◌, ◌==◌, ◌∙◌, ◌≡◌, StartsIn, ExportKind, option_and_then, wait_chain, wait_filing, waits_key, is_some}
 use Rattle.core_records.specs.declared.{call_records.GuestTask.GuestTask, set_records.WaitSet.WaitSet, single.Single.Single, thread_records.GuestThread.GuestThread}
 use Rattle.core_makes.proofs.MoreLemmas.{at_written, each_but, number_written, passing_more, size_more}
 use Rattle.core_queues.proofs.BareLemmas.{number_positive, one_place}
@@ -10,8 +10,9 @@ use Rattle.core_makes.specs.LooseCalls.{AreThreadLoose}
 use Rattle.core_makes.specs.Member.{IsMember}
 use Rattle.core_records.proofs.TableLemmas.{found_unseen, records_unseen}
 use Rattle.core_primitives.specs.Barred.{bars_start}
+use Rattle.core_records.specs.Names.{keeps_waits}
 
-module _ (p : CoreImage) (whole : IsWhole p) (tables : AreTables p) (rep : ℕ) (q : Placed (Single GuestTask)) (at : place_at p.calls rep ≡ Some q) (g : GuestThread) (is : IsMember p q.entry.item rep g) (loose : AreThreadLoose p (nodes_of g)) where
+module _ (p : CoreImage) (whole : IsWhole p) (tables : AreTables p) (rep : ℕ) (q : Placed (Single GuestTask)) (at : place_at p.calls rep ≡ Some q) (g : GuestThread) (is : IsMember p q.entry.item rep g) (loose : AreThreadLoose p (is_some q.entry.item.waits) (nodes_of g)) where
   abbrev one_more : GuestTask
   one_more = record q.entry.item { threads = q.entry.item.threads + 1 }
 
@@ -51,9 +52,13 @@ module _ (p : CoreImage) (whole : IsWhole p) (tables : AreTables p) (rep : ℕ) 
   chains_same (BlockedOn (Subtask.Guest k)) = found_unseen blocked_key p.calls rep q at (record { item = one_more }) refl k
   chains_same (BlockedOn (Subtask.Host i)) = refl
 
+  waits_same : (k : ℕ) → wait_chain recounted k ≡ wait_chain p k
+  waits_same k = ap (option_and_then (λ c. c)) (found_unseen waits_key p.calls rep q at (record { item = one_more }) refl k)
+
   recounted_chained : AreChained recounted
   recounted_chained = record {
-    places = IsIndex-same_chains (place_chain p) p.places (filings place_filing p.threads) whole.chained.places (place_chain recounted) chains_same;
+    places = IsIndex-same_chains (place_chain p) p.places (filings (place_filing p.version) p.threads) whole.chained.places (place_chain recounted) chains_same;
+    waits = IsIndex-same_chains (wait_chain p) p.waits (filings wait_filing p.threads) whole.chained.waits (wait_chain recounted) waits_same;
     ready_calls = IsIndex-with_entry_same ready_call (ready_call_chain p) p.calls p.ready_calls whole.chained.ready_calls rep q at (record { item = one_more }) refl;
     ready_works = whole.chained.ready_works;
     polled = whole.chained.polled;
@@ -64,8 +69,9 @@ module _ (p : CoreImage) (whole : IsWhole p) (tables : AreTables p) (rep : ℕ) 
     behind = whole.chained.behind;
   }
 
-  recounted_loose : AreThreadLoose recounted (nodes_of g)
+  recounted_loose : AreThreadLoose recounted (is_some q.entry.item.waits) (nodes_of g)
   recounted_loose = record {
+    wait = record { is = loose.wait.is; made = loose.wait.made; free = loose.wait.free; apart = loose.wait.apart };
     node = loose.node;
     mark = loose.mark;
     instance_queue = loose.instance_queue;
@@ -80,13 +86,13 @@ module _ (p : CoreImage) (whole : IsWhole p) (tables : AreTables p) (rep : ℕ) 
 
   chained : AreChained with_member
   chained =
-      let both = thread_chained recounted g tables.threads.table tables.threads.apart (tables.threads.later g.number later) recounted_loose (kinds p) later named (ap (where_at g.instance g.barred) is.unplaced) recounted_chained in
-      record { places = both.places; ready_calls = both.ready_calls; ready_works = both.ready_works; polled = both.polled; rising = both.rising; marks = both.marks; instance_queues = both.instance_queues; low = both.low; behind = both.behind }
+      let both = thread_chained recounted g (is_some q.entry.item.waits) tables.threads.table tables.threads.apart (tables.threads.later g.number later) recounted_loose (kinds p) later named (ap (where_at g.instance g.barred) is.unplaced) recounted_chained in
+      record { places = both.places; waits = both.waits; ready_calls = both.ready_calls; ready_works = both.ready_works; polled = both.polled; rising = both.rising; marks = both.marks; instance_queues = both.instance_queues; low = both.low; behind = both.behind }
 
   nodes : HaveRowNodes with_member
   nodes =
       let was = whole.nodes in
-      let both = thread_nodes recounted g tables.threads.table tables.threads.apart (tables.threads.later g.number later) recounted_loose (record { marks = was.marks; instance_queues = was.instance_queues; callers = was.callers; works = was.works; apart = was.apart }) in
+      let both = thread_nodes recounted g (is_some q.entry.item.waits) tables.threads.table tables.threads.apart (tables.threads.later g.number later) recounted_loose (record { marks = was.marks; instance_queues = was.instance_queues; callers = was.callers; works = was.works; apart = was.apart }) in
       record { marks = both.marks; instance_queues = both.instance_queues; callers = both.callers; works = both.works; apart = both.apart }
 
   -- ---- Names
@@ -103,6 +109,7 @@ module _ (p : CoreImage) (whole : IsWhole p) (tables : AreTables p) (rep : ℕ) 
     there = subst (λ (n : ℕ). 0 < n) (sym is.of_call) (number_positive (λ (c : GuestTask). c.number) (λ (c : GuestTask). c.call) p.calls p.made.threads tables.calls rep q at);
     instance = ap (λ (o : Option Call). (option_map_or (λ (d : Call). d.callee) o no_callee).instance) call_found ∙ sym is.instance;
     barred = ap (λ (o : Option Call). bars_start g.thread.explicit (option_map_or (λ (d : Call). d.kind) o ExportKind.Callback)) call_found ∙ is.barred;
+    waits = ap (λ (o : Option Call). keeps_waits p.version (option_map_or (λ (d : Call). d.kind) o ExportKind.Callback)) call_found ∙ ((whole.named.calls rep q at).waits ∙ sym loose.wait.is);
     within = is.within;
     place = subst (λ (x : Place). AtPlace with_member g.state_target (place_target x)) (sym is.unplaced) tt;
     op_progress = subst (λ (x : OpProgress). AtPlace with_member g.op_target (op_progress_target x)) (sym is.fresh) tt;
@@ -164,7 +171,7 @@ module _ (p : CoreImage) (whole : IsWhole p) (tables : AreTables p) (rep : ℕ) 
   member_whole = record {
     named = named_grown p g tables.threads is.next calls_now p.groups with_member.kept grows whole.named home
         (each_but p.calls rep q at one_more (IsCallNamed with_member)
-        (let was = call_grown p g tables.threads is.next calls_now p.groups with_member.kept grows q.entry.item (whole.named.calls rep q at) in record { caller = was.caller; first = was.first; join = was.join; group = was.group; positive = was.positive })
+        (let was = call_grown p g tables.threads is.next calls_now p.groups with_member.kept grows q.entry.item (whole.named.calls rep q at) in record { caller = was.caller; first = was.first; join = was.join; group = was.group; positive = was.positive; waits = was.waits })
         (λ r w other w_at. call_grown p g tables.threads is.next calls_now p.groups with_member.kept grows w.entry.item (whole.named.calls r w w_at)));
     chained = chained;
     nodes = nodes;

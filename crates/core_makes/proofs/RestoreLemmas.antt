@@ -1,6 +1,6 @@
 -- Tables that hold at each place what they held: the core is sound, and nothing is seen of it.
 use Rattle.core_records.specs.Keys.{call_seat_key, thread_seat_key, work_seat_key}
-use Rattle.core_records.proofs.Core.{AreEnded, [], ap, ap₂, AreHandlesNamed, AreKept, arith, AtPlace, bare, bare_call, bare_thread, bare_work, blocked_key, BlockedOn, Call, call_instance, call_key, callers_chain, callers_in, callers_key, callers_row, CallOf, cases_eq, chained, children_of, children_of-deleted, children_of-pushed, children_of-with_entry, cond, Core, core_of, deleted, Each, Entry, entry_keyed, eq-eqb, Filing, filings, follower, found, found_record, get, get-records, group_key, HandleKind, HasHome, HaveNodes, HeldIn, host_entry, IfSome, image, inl, inr, is_moving, IsCallKept, IsCallNamed, IsFollower, IsGroupKept, IsHeldNamed, IsIndex-same, IsIndex-same_chains, IsNamedAt, IsRows, IsKeyed, IsSetKept, IsSome, IsTable, IsTable-with_entry, IsWhole, IsWorkNamed, item_at, item_in, item_of, key_in, Kinds, kinds, tracked_in, tracked_of, List, live_chain, live_work, map, mapped, ne_eqb, next_place, next_place_free, None, Nothing, number_in, of_serial, on_item, Option, option_map, or_record, CoreImage, passing, place_at, place_at-deleted, place_at-mapped, place_at-pushed, place_chain, place_filing, Placed, placed_as, push_entry, pushed, ready_call, ready_call_chain, ready_calls_key, ready_work, ready_work_chain, ready_works_key, records, refl, Rep, said, same_map, set_key, SetOf, slice_get, slice_get-map, Some, Sound, SoundTable, Spot, standing, StandsAt, subst, Subtask, suc, sym, Table, Tag, tag_of, tags_in, Target, thread_entry, thread_key, ThreadOf, trimmed, under_key, UnderOf, WaitableKind, waiters_key, WaitsOn, Where, with_entry, with_first, with_nodes, work_blocked_key, work_key, WorkOf, ℕ, ◌∙◌, ◌∷◌, ◌≡◌, StartsIn}
+use Rattle.core_records.proofs.Core.{AreEnded, [], ap, ap₂, AreHandlesNamed, AreKept, arith, AtPlace, bare, bare_call, bare_thread, bare_work, blocked_key, BlockedOn, Call, call_instance, call_key, callers_chain, callers_in, callers_key, callers_row, CallOf, cases_eq, chained, children_of, children_of-deleted, children_of-pushed, children_of-with_entry, cond, Core, core_of, deleted, Each, Entry, entry_keyed, eq-eqb, Filing, filings, follower, found, found_record, get, get-records, group_key, HandleKind, HasHome, HaveNodes, HeldIn, host_entry, IfSome, image, inl, inr, is_moving, IsCallKept, IsCallNamed, IsFollower, IsGroupKept, IsHeldNamed, IsIndex-same, IsIndex-same_chains, IsNamedAt, IsRows, IsKeyed, IsSetKept, IsSome, IsTable, IsTable-with_entry, IsWhole, IsWorkNamed, item_at, item_in, item_of, key_in, Kinds, kinds, tracked_in, tracked_of, List, live_chain, live_work, map, mapped, ne_eqb, next_place, next_place_free, None, Nothing, number_in, of_serial, on_item, Option, option_map, or_record, CoreImage, passing, place_at, place_at-deleted, place_at-mapped, place_at-pushed, place_chain, place_filing, Placed, placed_as, push_entry, pushed, ready_call, ready_call_chain, ready_calls_key, ready_work, ready_work_chain, ready_works_key, records, refl, Rep, said, same_map, set_key, SetOf, slice_get, slice_get-map, Some, Sound, SoundTable, Spot, standing, StandsAt, subst, Subtask, suc, sym, Table, Tag, tag_of, tags_in, Target, thread_entry, thread_key, ThreadOf, trimmed, under_key, UnderOf, WaitableKind, waiters_key, WaitsOn, Where, with_entry, with_first, with_nodes, work_blocked_key, work_key, WorkOf, ℕ, ◌∙◌, ◌∷◌, ◌≡◌, StartsIn, option_and_then, wait_chain, wait_filing, waits_key, keeps_waits}
 use Rattle.core_records.specs.declared.{call_records.GuestTask.GuestTask, call_records.TaskGroup.TaskGroup, instance_records.InstanceRecord.InstanceRecord, set_records.WaitSet.WaitSet, single.Single.Single, thread_records.Follower.Follower, thread_records.GuestThread.GuestThread, thread_records.Queued.Queued, work_records.WorkRecord.WorkRecord}
 use Rattle.core_makes.proofs.MoreLemmas.{IsRows-known, at_unwritten, at_written}
 use Rattle.core_makes.specs.Restored.{IsRestored, Restores}
@@ -120,13 +120,14 @@ module _ (p : CoreImage) (threads : Table (Single GuestThread)) (calls : Table (
     there = h.there;
     instance = ap (λ (s : Core). call_instance g.thread.call s) core_same ∙ h.instance;
     barred = ap (λ s. bars_start g.thread.explicit (kind_of g.thread.call s)) core_same ∙ h.barred;
+    waits = ap (λ s. keeps_waits p.version (kind_of g.thread.call s)) core_same ∙ h.waits;
     within = h.within;
     place = at_restored g.state_target _ h.place;
     op_progress = at_restored g.op_target _ h.op_progress;
   }
 
   call_kept : (g : GuestTask) → IsCallNamed p g → IsCallNamed restored g
-  call_kept g h = record { caller = at_restored g.maker _ h.caller; first = at_restored g.first (ThreadOf g.number) h.first; join = at_restored g.joined _ h.join; group = ap (λ o. number_in (key_in group_key o)) (same_groups g.group) ∙ h.group; positive = h.positive }
+  call_kept g h = record { caller = at_restored g.maker _ h.caller; first = at_restored g.first (ThreadOf g.number) h.first; join = at_restored g.joined _ h.join; group = ap (λ o. number_in (key_in group_key o)) (same_groups g.group) ∙ h.group; positive = h.positive; waits = h.waits }
 
   work_kept : (w : WorkRecord) → IsWorkNamed p w → IsWorkNamed restored w
   work_kept w h = record { caller = at_restored w.maker _ h.caller; join = at_restored w.joined _ h.join; group = λ n is. let one = h.group n is in (ap (λ o. number_in (key_in group_key o)) (same_groups w.group) ∙ one.0, one.1) }
@@ -163,7 +164,8 @@ module _ (p : CoreImage) (threads : Table (Single GuestThread)) (calls : Table (
       switch = switch_kept p.switch whole.named.switch;
     };
     chained = record {
-      places = IsIndex-same (place_chain restored) p.places (filings place_filing p.threads) (IsIndex-same_chains (place_chain p) p.places (filings place_filing p.threads) whole.chained.places (place_chain restored) chains_kept) (filings place_filing threads) (filings_same place_filing p.threads threads same_threads);
+      places = IsIndex-same (place_chain restored) p.places (filings (place_filing p.version) p.threads) (IsIndex-same_chains (place_chain p) p.places (filings (place_filing p.version) p.threads) whole.chained.places (place_chain restored) chains_kept) (filings (place_filing p.version) threads) (filings_same (place_filing p.version) p.threads threads same_threads);
+      waits = IsIndex-same (wait_chain restored) p.waits (filings wait_filing p.threads) (IsIndex-same_chains (wait_chain p) p.waits (filings wait_filing p.threads) whole.chained.waits (wait_chain restored) (λ k. ap (option_and_then (λ c. c)) (found_same waits_key p.calls calls same_calls k))) (filings wait_filing threads) (filings_same wait_filing p.threads threads same_threads);
       ready_calls = IsIndex-same (ready_call_chain restored) p.ready_calls (filings ready_call p.calls) (IsIndex-same_chains (ready_call_chain p) p.ready_calls (filings ready_call p.calls) whole.chained.ready_calls (ready_call_chain restored) (found_same ready_calls_key p.sets sets same_sets)) (filings ready_call calls) (filings_same ready_call p.calls calls same_calls);
       ready_works = IsIndex-same (ready_work_chain restored) p.ready_works (filings ready_work p.works) (IsIndex-same_chains (ready_work_chain p) p.ready_works (filings ready_work p.works) whole.chained.ready_works (ready_work_chain restored) (found_same ready_works_key p.sets sets same_sets)) (filings ready_work works) (filings_same ready_work p.works works same_works);
       polled = IsIndex-same (live_chain p) p.polled (filings live_work p.works) whole.chained.polled (filings live_work works) (filings_same live_work p.works works same_works);

@@ -41,10 +41,10 @@ module _ (p : CoreImage) (whole : IsWhole p) (tables : SoundTable set_key p.sets
   at_more rep (SetOf n) at = (let few = at.0 in omega arith, stands_more (λ (y : WaitSet). y.number) (λ (y : WaitSet). y.set) p.sets p.made.sets tables x next rep n at.0 at.1)
 
   home_more : (g : GuestThread) → HasHome p g → HasHome with_set g
-  home_more g h = record { call = h.call; there = h.there; instance = h.instance; barred = h.barred; within = h.within; place = at_more g.state_target _ h.place; op_progress = at_more g.op_target _ h.op_progress }
+  home_more g h = record { call = h.call; there = h.there; instance = h.instance; barred = h.barred; waits = h.waits; within = h.within; place = at_more g.state_target _ h.place; op_progress = at_more g.op_target _ h.op_progress }
 
   call_more : (g : GuestTask) → IsCallNamed p g → IsCallNamed with_set g
-  call_more g h = record { caller = at_more g.maker _ h.caller; first = at_more g.first (ThreadOf g.number) h.first; join = at_more g.joined _ h.join; group = h.group; positive = h.positive }
+  call_more g h = record { caller = at_more g.maker _ h.caller; first = at_more g.first (ThreadOf g.number) h.first; join = at_more g.joined _ h.join; group = h.group; positive = h.positive; waits = h.waits }
 
   work_more : (w : WorkRecord) → IsWorkNamed p w → IsWorkNamed with_set w
   work_more w h = record { caller = at_more w.maker _ h.caller; join = at_more w.joined _ h.join; group = h.group }
@@ -66,11 +66,11 @@ module _ (p : CoreImage) (whole : IsWhole p) (tables : SoundTable set_key p.sets
   place_others (BlockedOn (Subtask.Guest k)) other = refl
   place_others (BlockedOn (Subtask.Host i)) other = refl
 
-  none_waits : (rep : ℕ) (f : Filing Where OrderKey) → filings place_filing p.threads rep ≡ Some f → f.key ≡ Some (WaitsOn x.number) → ⊥
+  none_waits : (rep : ℕ) (f : Filing Where OrderKey) → filings (place_filing p.version) p.threads rep ≡ Some f → f.key ≡ Some (WaitsOn x.number) → ⊥
   unfolding filings
   none_waits rep f is key = by_place (place_at p.threads rep) refl is
     where
-      by_place : (o : Option (Placed (Single GuestThread))) → place_at p.threads rep ≡ o → said place_filing rep o ≡ Some f → ⊥
+      by_place : (o : Option (Placed (Single GuestThread))) → place_at p.threads rep ≡ o → said (place_filing p.version) rep o ≡ Some f → ⊥
       by_place None at is = absurd (cc)
       by_place (Some q) at is =
           let g = q.entry.item in
@@ -145,7 +145,8 @@ module _ (p : CoreImage) (whole : IsWhole p) (tables : SoundTable set_key p.sets
       switch = whole.named.switch;
     };
     chained = record {
-      places = IsIndex-opened (place_chain p) (place_chain with_set) p.places (WaitsOn x.number) (waits_is x.number) place_others x.waiters (has_chain (λ y. y.waiters)) loose.waiters (filings place_filing p.threads) whole.chained.places none_waits;
+      places = IsIndex-opened (place_chain p) (place_chain with_set) p.places (WaitsOn x.number) (waits_is x.number) place_others x.waiters (has_chain (λ y. y.waiters)) loose.waiters (filings (place_filing p.version) p.threads) whole.chained.places none_waits;
+      waits = whole.chained.waits;
       ready_calls = IsIndex-opened (ready_call_chain p) (ready_call_chain with_set) p.ready_calls x.number (λ n. cases_eq n x.number) (other_chain (λ y. y.ready_calls)) x.ready_calls (has_chain (λ y. y.ready_calls)) loose.ready_calls (filings ready_call p.calls) whole.chained.ready_calls none_call;
       ready_works = IsIndex-opened (ready_work_chain p) (ready_work_chain with_set) p.ready_works x.number (λ n. cases_eq n x.number) (other_chain (λ y. y.ready_works)) x.ready_works (has_chain (λ y. y.ready_works)) loose.ready_works (filings ready_work p.works) whole.chained.ready_works none_work;
       polled = whole.chained.polled;

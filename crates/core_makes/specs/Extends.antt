@@ -9,8 +9,16 @@ Grown old new = (n : ℕ) → (spot_at old n ≡ Unmade → ⊥) → spot_at new
 
 pub record Extends (a b : CoreParts) : Type 0 where
   pub places : Grown a.places b.places
+  pub waits : Grown a.waits b.waits
   pub ready_calls : Grown a.ready_calls b.ready_calls
   pub marks : Grown a.marks b.marks
   pub instance_queues : Grown a.instance_queues b.instance_queues
   pub behind : Grown a.behind b.behind
-  pub only : b ≡ record a { places = b.places; ready_calls = b.ready_calls; marks = b.marks; instance_queues = b.instance_queues; behind = b.behind }
+  pub only : b ≡ record a {
+    places = b.places;
+    waits = b.waits;
+    ready_calls = b.ready_calls;
+    marks = b.marks;
+    instance_queues = b.instance_queues;
+    behind = b.behind;
+  }

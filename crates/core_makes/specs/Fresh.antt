@@ -32,6 +32,7 @@ call_record number call maker group entry nodes = record {
   threads = 1;
   ready = nodes.ready;
   blocked = nodes.blocked;
+  waits = nodes.waits;
 }
 
 -- a thread under its number, of the call at a place
@@ -48,6 +49,7 @@ thread_record number thread task instance barred entries nodes = record {
   op_target = 0;
   barred = barred;
   node = nodes.node;
+  wait = nodes.wait;
   mark = nodes.mark;
   instance_queue = nodes.instance_queue;
   caller = nodes.caller;

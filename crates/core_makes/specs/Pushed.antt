@@ -4,6 +4,7 @@ use Rattle.machine_data.specs.Write.{add_call, add_thread}
 use Rattle.machine_data.specs.Core.{Core}
 use Rattle.task_wait.specs.declared.keys.SetKey.{SetKey}
 use Rattle.task_table.specs.Table.{IsTable}
+use Rattle.core_records.specs.Names.{keeps_waits}
 use Rattle.core_records.specs.declared.set_records.WaitSet.{WaitSet}
 use Rattle.core_makes.specs.Fresh.{new_group}
 use Rattle.core_makes.specs.Ends.{HasEndRoom}
@@ -11,8 +12,8 @@ use Rattle.core_makes.specs.Counted.{IsGroupMore, IsSetMore, IsCallWithThreadLes
 use Rattle.core_makes.specs.Member.{IsMember}
 use Rattle.core_makes.specs.CallThread.{IsCallWithThread}
 use Rattle.core_makes.specs.Loose.{AreSetLoose}
-use Rattle.std.specs.Prelude.{◌≡◌, ◌+◌, ◌<◌, ◌≤◌, ◌^◌, ℕ, IsSome, List, Ok, length, true, None}
-use Rattle.core_makes.specs.LooseCalls.{AreCallAndThreadLoose, AreThreadLoose, call_nodes_of, thread_nodes_of}
+use Rattle.std.specs.Prelude.{◌≡◌, ◌+◌, ◌<◌, ◌≤◌, ◌^◌, ℕ, IsSome, is_some, List, Ok, length, true, None}
+use Rattle.core_makes.specs.LooseCalls.{AreCallAndThreadLoose, AreNextLoose, AreThreadLoose, call_nodes_of, thread_nodes_of}
 use Rattle.core_makes.specs.declared.node_makes.CallNodes.{CallNodes}
 use Rattle.core_makes.specs.declared.node_makes.ThreadNodes.{ThreadNodes}
 use Rattle.core_makes.specs.declared.record_makes.Request.{Request}
@@ -44,7 +45,7 @@ pub record MayAdd
   pub group : Ok of ≡ item_at item_of a.groups id.rep id.serial
   pub there : IsSome (get (seen a).core.instances request.callee.instance)
   pub result : request.goal ≡ goals.Main → HasRoom (a.made.threads + 1) a.results
-  pub loose : AreCallAndThreadLoose (bare (parts_of a)) nodes.0 nodes.1
+  pub loose : AreNextLoose a request.kind nodes
 
 -- There is room for a call of this group and for its first thread, what they have hangs on nothing yet, and the group is there.
 pub record MayPushCallWithThread (a : CoreParts) (id : TableId GroupKey) (of : TaskGroup) (call : GuestTask) (thread : GuestThread) : Type 0 where
@@ -55,7 +56,7 @@ pub record MayPushCallWithThread (a : CoreParts) (id : TableId GroupKey) (of : T
   pub of_group : of.number ≡ call.call.group
   pub next : IsCallWithThread (bare (parts_of a)) (bare_call (record call { first = next_place a.threads }))
       (bare_thread (record thread { task = next_place a.calls }))
-  pub loose : AreCallAndThreadLoose (bare (parts_of a)) (call_nodes_of call) (thread_nodes_of thread)
+  pub loose : AreCallAndThreadLoose (bare (parts_of a)) (keeps_waits a.version call.call.kind) (call_nodes_of call) (thread_nodes_of thread)
   pub unnamed : thread.thread.handle ≡ None
   pub interests : call.call.interesting ≡ true
 
@@ -108,7 +109,7 @@ pub record DropsCallWithThread
 pub record MayPushThread (a : CoreParts) (id : TableId GuestTaskKey) (call : GuestTask) (thread : GuestThread) : Type 0 where
   pub there : Ok call ≡ item_at item_of a.calls id.rep id.serial
   pub member : IsMember (bare (parts_of a)) (bare_call call) id.rep (bare_thread thread)
-  pub loose : AreThreadLoose (bare (parts_of a)) (thread_nodes_of thread)
+  pub loose : AreThreadLoose (bare (parts_of a)) (is_some call.waits) (thread_nodes_of thread)
   pub unnamed : thread.thread.handle ≡ None
 
 -- A group more, with no call yet, at this place of the resource table.
@@ -141,4 +142,4 @@ pub record MayAddByMain (a : CoreParts) (request : Request) (given : List ℕ) (
   pub caller : request.caller ≡ callers.Main
   pub there : IsSome (get (seen a).core.instances request.callee.instance)
   pub result : request.goal ≡ goals.Main → HasRoom (a.made.threads + 1) a.results
-  pub loose : AreCallAndThreadLoose (bare (parts_of a)) nodes.0 nodes.1
+  pub loose : AreNextLoose a request.kind nodes

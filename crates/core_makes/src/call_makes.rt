@@ -1,7 +1,7 @@
 ghost use Rattle.std.specs.Prelude.{◌≡◌, ◌+◌, ◌<◌, ◌≤◌, ◌^◌, IfOk, IsSome, OnErr, OnOk, length, true};
 ghost use Rattle.core_makes.specs.Restored.{IsRestored};
 ghost use Rattle.core_makes.specs.Fresh.{requested, requested_grouped, requested_with_handle};
-ghost use Rattle.core_makes.specs.LooseCalls.{AreCallAndThreadLoose};
+ghost use Rattle.core_makes.specs.LooseCalls.{AreNextLoose};
 ghost use Rattle.core_makes.specs.Pushed.{MayAdd, PushesCallWithThread, MayAddByMain};
 ghost use Rattle.machine_data.specs.Maps.{get};
 ghost use Rattle.machine_data.specs.Read.{fits};
@@ -72,19 +72,23 @@ pub fn add_call_with_thread(
 
 // The nodes of a call and of its first thread, and room for a result that goes to main. If it is out of memory, all is as before.
 #[inline(always)]
-pub fn prepare(parts: &mut CoreParts, goal: Goal) -> Result<(CallNodes, ThreadNodes), NoMemory>
+pub fn prepare(
+    parts: &mut CoreParts,
+    goal: Goal,
+    kind: ExportKind,
+) -> Result<(CallNodes, ThreadNodes), NoMemory>
     requires sound { IsSoundCore parts.old }
     requires few { (seen parts.old).core.made.threads + 1 < 2 ^ 64 }
     ensures sound { IsSoundCore parts.new }
     ensures seen { seen parts.new ≡ seen parts.old }
-    ensures loose { IfOk result (λ nodes. AreCallAndThreadLoose (bare (parts_of parts.new)) nodes.0 nodes.1) }
+    ensures loose { IfOk result (λ nodes. AreNextLoose parts.new kind nodes) }
     ensures result { OnOk result (goal ≡ goals.Main → HasRoom (parts.new.made.threads + 1) parts.new.results) }
 {
     if let Goal::Main = goal {
         let number = parts.made.threads + 1;
         make_room(parts, number)?;
     }
-    let nodes = new_call_thread_nodes(parts)?;
+    let nodes = new_call_thread_nodes(parts, kind)?;
     Ok(nodes)
 }
 
@@ -113,15 +117,16 @@ pub fn add_call_with_thread_outlined(
 pub fn prepare_outlined(
     parts: &mut CoreParts,
     goal: Goal,
+    kind: ExportKind,
 ) -> Result<(CallNodes, ThreadNodes), NoMemory>
     requires sound { IsSoundCore parts.old }
     requires few { (seen parts.old).core.made.threads + 1 < 2 ^ 64 }
     ensures sound { IsSoundCore parts.new }
     ensures seen { seen parts.new ≡ seen parts.old }
-    ensures loose { IfOk result (λ nodes. AreCallAndThreadLoose (bare (parts_of parts.new)) nodes.0 nodes.1) }
+    ensures loose { IfOk result (λ nodes. AreNextLoose parts.new kind nodes) }
     ensures result { OnOk result (goal ≡ goals.Main → HasRoom (parts.new.made.threads + 1) parts.new.results) }
 {
-    prepare(parts, goal)
+    prepare(parts, goal, kind)
 }
 
 // A call by main in a group that is made for it, at this place of the resource table. If it is out of memory, neither is there.
@@ -184,7 +189,7 @@ fn make_call_by_main_with(
         goal,
         entries,
     };
-    match prepare_outlined(parts, goal) {
+    match prepare_outlined(parts, goal, kind) {
         Ok(nodes) => {
             reserve_end(parts)?;
             match add_main_call(parts, entry, request, words, nodes) {

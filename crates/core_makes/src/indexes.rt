@@ -29,6 +29,30 @@ pub fn make_place_node(parts: &mut CoreParts) -> Result<Node, NoMemory>
     }
 }
 
+/// Makes a new chain among the waiting threads of calls, which hangs on nothing yet. If it is out of memory, all is as before.
+#[inline(always)]
+pub fn make_wait_chain(parts: &mut CoreParts) -> Result<usize, NoMemory>
+    requires { IsSoundCore parts.old }
+    ensures { MakesChain parts.old.waits parts.new.waits parts.old parts.new (record parts.old { waits = parts.new.waits }) result }
+{
+    match parts.waits.make_chain() {
+        Ok(chain) => Ok(chain),
+        Err(why) => Err(why),
+    }
+}
+
+/// Makes a new node among the waiting threads of calls, which hangs on nothing yet. If it is out of memory, all is as before.
+#[inline(always)]
+pub fn make_wait_node(parts: &mut CoreParts) -> Result<Node, NoMemory>
+    requires { IsSoundCore parts.old }
+    ensures { MakesNode parts.old.waits parts.new.waits parts.old parts.new (record parts.old { waits = parts.new.waits }) result }
+{
+    match parts.waits.make_node() {
+        Ok(node) => Ok(node),
+        Err(why) => Err(why),
+    }
+}
+
 /// Makes a new chain among the ready calls of sets, which hangs on nothing yet. If it is out of memory, all is as before.
 #[inline(always)]
 pub fn make_ready_call_chain(parts: &mut CoreParts) -> Result<usize, NoMemory>

@@ -22,7 +22,8 @@ pub use callers::{make_caller_chain, make_caller_node};
 pub use calls_with_threads::{one_less, one_more};
 pub use indexes::{
     make_live_chain, make_live_node, make_place_chain, make_place_node, make_ready_call_chain,
-    make_ready_call_node, make_ready_work_chain, make_ready_work_node,
+    make_ready_call_node, make_ready_work_chain, make_ready_work_node, make_wait_chain,
+    make_wait_node,
 };
 pub use instance_makes::add_instance;
 pub use mark_makes::{open_high, open_low};

@@ -1,6 +1,6 @@
 ghost use Rattle.std.specs.Prelude.{◌≡◌, ◌+◌, ◌-◌, ◌<◌, ◌≤◌, ◌^◌, IfOk, Ok, OnErr, OnOk, is_some, length, true};
 ghost use Rattle.core_makes.specs.Counted.{IsMemberLess};
-ghost use Rattle.core_makes.specs.LooseCalls.{AreThreadLoose};
+ghost use Rattle.core_makes.specs.LooseCalls.{AreMemberLoose};
 ghost use Rattle.core_makes.specs.Pushed.{PushesThread, MayPushThread};
 ghost use Rattle.machine_data.specs.Maps.{get};
 ghost use Rattle.machine_data.specs.Read.{call_instance, fits};
@@ -117,7 +117,7 @@ fn add_member(
     requires there { is_some (get (seen parts.old).core.handles (call_instance (call_of (seen parts.old) task) (seen parts.old).core)) ≡ true }
     requires few { (seen parts.old).core.made.threads + 1 < 2 ^ 64 }
     requires room { fits 2 (seen parts.old).core ≡ true }
-    requires loose { AreThreadLoose (bare (parts_of parts.old)) nodes }
+    requires loose { AreMemberLoose parts.old task nodes }
     ensures sound { IsSoundCore parts.new }
     ensures new { MakesThread (with_member (call_of (seen parts.old) task) slot words.now) (seen parts.old) result (seen parts.new) }
 {
@@ -155,7 +155,8 @@ fn make_thread_with(
     ensures sound { IsSoundCore parts.new }
     ensures new { MakesThread (with_member (call_of (seen parts.old) task) slot words.now) (seen parts.old) result (seen parts.new) }
 {
-    match new_thread_nodes(parts) {
+    let waits = core_records::call_there(parts, task).waits.is_some();
+    match new_thread_nodes(parts, waits) {
         Ok(nodes) => match add_member(parts, task, slot, words, entries, nodes) {
             Ok(new) => Ok(new),
             Err(why) => Err(why),

@@ -53,6 +53,7 @@ pub fn new_call(request: Request, group: u64) -> Call
         end: None,
         event: None,
         task_event: None,
+        cancel_asked: false,
         cancel_delivered: false,
         exited: false,
         interesting: true,
@@ -80,6 +81,7 @@ pub fn new_thread(call: u64, explicit: bool, script: Script, words: &[u64]) -> T
         handle: None,
         saved_own: None,
         saved_callee: None,
+        came: 0,
         place: Place::New,
     }
 }
@@ -107,6 +109,7 @@ pub fn call_record(
         threads: 1,
         ready: nodes.ready,
         blocked: nodes.blocked,
+        waits: nodes.waits,
     }
 }
 
@@ -146,6 +149,7 @@ pub fn thread_record(
         op_target: 0,
         barred,
         node: nodes.node,
+        wait: nodes.wait,
         mark: nodes.mark,
         instance_queue: nodes.instance_queue,
         caller: nodes.caller,

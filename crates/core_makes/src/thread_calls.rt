@@ -60,7 +60,7 @@ fn make_call_with(
         goal,
         entries,
     };
-    match prepare_outlined(parts, goal) {
+    match prepare_outlined(parts, goal, kind) {
         Ok(nodes) => {
             let (id, group) = group_of(parts, thread);
             match add_call_with_thread_outlined(parts, id, group, request, words, nodes) {
@@ -129,7 +129,7 @@ fn make_direct_call_with(
         goal: Goal::Direct,
         entries,
     };
-    match prepare(parts, request.goal) {
+    match prepare(parts, request.goal, kind) {
         Ok(nodes) => {
             let (id, group) = group_of(parts, thread);
             match add_named_call(parts, id, group, request, words, nodes) {

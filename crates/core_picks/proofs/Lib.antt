@@ -1,0 +1,4 @@
+pub mod ArriveLemmas
+pub mod CancellableLemmas
+pub mod ComesLemmas
+pub mod VersionLemmas

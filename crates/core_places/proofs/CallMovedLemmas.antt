@@ -1,5 +1,5 @@
 -- A call is written that has another event or set, and the numbers of members of sets: what else holds of the parts stays.
-use Rattle.core_records.proofs.Core.{ap, ap₂, AreChained, AreCounted, AtPlace, BlockedOn, Bool, Call, call_instance, call_key, CallOf, core_of, count_by, EachEntry, filings, get, get-records, Goal, HasHome, HasRoom, HeldIn, StartsIn, is_host_call, is_of_group, IsCallKept, IsCallNamed, IsGroupKept, IsIndex, IsIndex-same_chains, IsSetKept, IsWhole, IsWorkNamed, join_target, length, List, mapped, no_callee, None, Nothing, on_item, Option, option_map, option_map_or, CoreImage, passing, place_chain, ready_call, ready_call_chain, ready_work_chain, records, refl, same_Some, SetOf, size, Some, Spot, subst, Subtask, sym, Table, table_use, Target, ThreadOf, UnderOf, WaitsOn, Where, WorkOf, ℕ, ◌*◌, ◌+◌, ◌==◌, ◌∙◌, ◌≡◌}
+use Rattle.core_records.proofs.Core.{ap, ap₂, AreChained, AreCounted, AtPlace, BlockedOn, Bool, Call, call_instance, call_key, CallOf, core_of, count_by, EachEntry, filings, get, get-records, Goal, HasHome, HasRoom, HeldIn, StartsIn, is_host_call, is_of_group, IsCallKept, IsCallNamed, IsGroupKept, IsIndex, IsIndex-same_chains, IsSetKept, IsWhole, IsWorkNamed, join_target, length, List, mapped, no_callee, None, Nothing, on_item, Option, option_map, option_map_or, CoreImage, passing, place_chain, ready_call, ready_call_chain, ready_work_chain, records, refl, same_Some, SetOf, size, Some, Spot, subst, Subtask, sym, Table, table_use, Target, ThreadOf, UnderOf, WaitsOn, Where, WorkOf, ℕ, ◌*◌, ◌+◌, ◌==◌, ◌∙◌, ◌≡◌, option_and_then, wait_chain}
 use Rattle.machine_data.specs.declared.component.ExportKind.{ExportKind}
 use Rattle.machine_data.specs.Read.{kind_of}
 use Rattle.core_records.specs.declared.{call_records.GuestTask.GuestTask, call_records.TaskGroup.TaskGroup, set_records.WaitSet.WaitSet, single.Single.Single, thread_records.GuestThread.GuestThread, work_records.WorkRecord.WorkRecord}
@@ -9,6 +9,7 @@ use Rattle.core_places.proofs.PutLemmas.{sets_same}
 use Rattle.core_places.specs.Moved.{Alike, quiet_call, still_call, uncounted}
 use Rattle.table_lists.specs.declared.ordered_lists.OrderKey.{OrderKey}
 use Rattle.core_primitives.specs.Barred.{bars_start}
+use Rattle.core_records.specs.Names.{keeps_waits}
 
 quiet_instance : (o : Option Call) → (option_map_or (λ (c : Call). c.callee) (option_map quiet_call o) no_callee).instance ≡ (option_map_or (λ (c : Call). c.callee) o no_callee).instance
 quiet_instance None = refl
@@ -39,16 +40,16 @@ module _ (p : CoreImage) (whole : IsWhole p) (calls : Table (Single GuestTask)) 
   kind_told k = sym (quiet_kind (get (core_of told).calls k)) ∙ (ap (λ o. option_map_or (λ (c : Call). c.kind) o ExportKind.Callback) (get_told k) ∙ quiet_kind (get (core_of p).calls k))
 
   home_told : (g : GuestThread) → HasHome p g → HasHome told g
-  home_told g h = record { call = number_alike still_call calls p.calls alike (λ (g : GuestTask). g.number) (λ g. refl) (λ (g : GuestTask). g.call) quiet_call (λ g. refl) g.task ∙ h.call; there = h.there; instance = instance_told g.thread.call ∙ h.instance; barred = ap (bars_start g.thread.explicit) (kind_told g.thread.call) ∙ h.barred; within = h.within; place = at_told g.state_target _ h.place; op_progress = at_told g.op_target _ h.op_progress }
+  home_told g h = record { call = number_alike still_call calls p.calls alike (λ (g : GuestTask). g.number) (λ g. refl) (λ (g : GuestTask). g.call) quiet_call (λ g. refl) g.task ∙ h.call; there = h.there; instance = instance_told g.thread.call ∙ h.instance; barred = ap (bars_start g.thread.explicit) (kind_told g.thread.call) ∙ h.barred; waits = ap (keeps_waits p.version) (kind_told g.thread.call) ∙ h.waits; within = h.within; place = at_told g.state_target _ h.place; op_progress = at_told g.op_target _ h.op_progress }
 
   call_told : (g : GuestTask) → IsCallNamed p g → IsCallNamed told (still_call g)
-  call_told g h = record { caller = at_told g.maker _ h.caller; first = at_told g.first (ThreadOf g.number) h.first; join = tt; group = h.group; positive = h.positive }
+  call_told g h = record { caller = at_told g.maker _ h.caller; first = at_told g.first (ThreadOf g.number) h.first; join = tt; group = h.group; positive = h.positive; waits = h.waits }
 
   calls_told : EachEntry (λ (g : GuestTask). AtPlace told g.joined (join_target g.call.join)) calls → EachEntry (IsCallNamed told) calls
   calls_told joins r q at =
       let one = place_alike still_call calls p.calls alike r q at in
       let h = subst (IsCallNamed told) one.1.1 (call_told one.0.entry.item (whole.named.calls r one.0 one.1.0)) in
-      record { caller = h.caller; first = h.first; join = joins r q at; group = h.group; positive = h.positive }
+      record { caller = h.caller; first = h.first; join = joins r q at; group = h.group; positive = h.positive; waits = h.waits }
 
   work_told : (w : WorkRecord) → IsWorkNamed p w → IsWorkNamed told w
   work_told w h = record { caller = at_told w.maker _ h.caller; join = at_told w.joined _ h.join; group = h.group }
@@ -61,6 +62,9 @@ module _ (p : CoreImage) (whole : IsWhole p) (calls : Table (Single GuestTask)) 
   place_chain_told (BlockedOn (Subtask.Guest k)) = found_alike still_call calls p.calls alike (λ (g : GuestTask). g.number) (λ g. refl) (λ (g : GuestTask). g.blocked) (λ g. refl) k
   place_chain_told (BlockedOn (Subtask.Host i)) = refl
 
+  wait_chain_told : (k : ℕ) → wait_chain told k ≡ wait_chain p k
+  wait_chain_told k = ap (option_and_then (λ c. c)) (found_alike still_call calls p.calls alike (λ (g : GuestTask). g.number) (λ g. refl) (λ (g : GuestTask). g.waits) (λ g. refl) k)
+
   ready_calls_told : (x : ℕ) → ready_call_chain told x ≡ ready_call_chain p x
   ready_calls_told x = found_alike uncounted sets p.sets sets_alike (λ (x : WaitSet). x.number) (λ x. refl) (λ (x : WaitSet). x.ready_calls) (λ x. refl) x
 
@@ -70,6 +74,7 @@ module _ (p : CoreImage) (whole : IsWhole p) (calls : Table (Single GuestTask)) 
   chained_told : IsIndex (ready_call_chain p) ready (filings ready_call calls) → AreChained told
   chained_told index = record {
     places = IsIndex-same_chains (place_chain p) p.places _ whole.chained.places (place_chain told) place_chain_told;
+    waits = IsIndex-same_chains (wait_chain p) p.waits _ whole.chained.waits (wait_chain told) wait_chain_told;
     ready_calls = IsIndex-same_chains (ready_call_chain p) ready (filings ready_call calls) index (ready_call_chain told) ready_calls_told;
     ready_works = IsIndex-same_chains (ready_work_chain p) p.ready_works _ whole.chained.ready_works (ready_work_chain told) ready_works_told;
     polled = whole.chained.polled;

@@ -1,7 +1,7 @@
 -- What the first entry of a chain says of all that the chain holds.
 use Rattle.core_records.proofs.Core.{[], ap, false, head_of, inl, inr, link_of, List, list_any, None, refl, same_Some, Some, Spot, subst, sym, ℕ, ◌∙◌, ◌≡◌, ◌∷◌}
 use Rattle.std.proofs.lemmas.Bool.{or_parts}
-use Rattle.std.specs.Ordering.{is_lt, ordering_then}
+use Rattle.std.specs.Ordering.{is_lt, nat_cmp, ordering_then}
 use Rattle.std.specs.declared.cmp.Ordering.{Ordering}
 use Rattle.std.specs.declared.cmp.Ordering.TheVariants.{Equal, Greater, Less}
 use Rattle.table_lists.specs.OrderKeys.{order_key_order}
@@ -10,6 +10,11 @@ use Rattle.table_lists.specs.Index.{Holds}
 use Rattle.table_links.specs.Links.{AreLinked, In, IsLinks, entries}
 use Rattle.table_links.specs.declared.{links.Node.Node}
 use Rattle.task_wait.specs.Sets.{IsLeast}
+use Rattle.core_places.specs.Picks.{thread_order}
+use Rattle.core_records.specs.RecordPlaces.{thread_order_key}
+use Rattle.core_records.specs.declared.thread_records.GuestThread.{GuestThread}
+use Rattle.machine_data.specs.declared.scenario.Version.TheVariants as version
+use Rattle.machine_data.specs.declared.scenario.Version.{Version}
 
 -- what isn't less by three keys isn't by the first two
 pub lt_front : (a b c : Ordering) → is_lt (ordering_then a (ordering_then b c)) ≡ false → is_lt (ordering_then a b) ≡ false
@@ -18,6 +23,16 @@ lt_front Equal Less c is = is
 lt_front Equal Equal c is = refl
 lt_front Equal Greater c is = refl
 lt_front Greater b c is = refl
+
+pub lt_first : (a b : Ordering) → is_lt (ordering_then a b) ≡ false → is_lt a ≡ false
+lt_first Less b is = is
+lt_first Equal b is = refl
+lt_first Greater b is = refl
+
+-- nor does a thread come before one whose order key isn't greater
+pub thread_front : (v : Version) (r s : ℕ) (h g : GuestThread) → is_lt (order_key_order (thread_order_key v r h) (thread_order_key v s g)) ≡ false → is_lt (thread_order v h g) ≡ false
+thread_front version.One r s h g off = lt_front (nat_cmp h.task_entry g.task_entry) (nat_cmp h.entry g.entry) (nat_cmp r s) off
+thread_front version.Two r s h g off = lt_first (nat_cmp h.thread.came g.thread.came) _ off
 
 module _ (links : List (Spot OrderKey)) (c : ℕ) where
   -- it is held

@@ -31,9 +31,9 @@ module _ (a : CoreParts) (sound : IsSoundCore a) (id : TableId ThreadKey) (g : G
       let p = one.0 in
       let n = p.entry.item.number in
       let named : n ≡ number_of set_key a.sets from.rep from.serial = ap (λ (e : Single WaitSet). e.item.number) one.1.1.1 ∙ sym (item_number (λ (x : WaitSet). x.number) (λ (x : WaitSet). x.set) a.sets from.rep from.serial x is_x) in
-      let some : keeps n g.thread ≡ true = keeps_is n (loose_thread g.thread) (loose_thread g.thread).place ∙ (sym (from_number a sound id g is h stays handle from to from_is to_is n (set_positive a sound id g is h stays handle from to from_is to_is [] from.rep p one.1.0) (set_there a sound id g is h stays handle from to from_is to_is [] from.rep p one.1.0)) ∙ eq-eqb n (number_of set_key a.sets from.rep from.serial) named) in
+      let some : keeps n g.thread ≡ true = keeps_is n (loose_thread g.thread) (loose_thread g.thread).place ∙ (sym (from_number a sound id g is h stays handle from to from_is to_is n (set_positive a sound id g is h stays handle from to from_is to_is [] [] from.rep p one.1.0) (set_there a sound id g is h stays handle from to from_is to_is [] [] from.rep p one.1.0)) ∙ eq-eqb n (number_of set_key a.sets from.rep from.serial) named) in
       let counted = counted_there a sound id.rep id.serial g is n some in
-      let was : p.entry.item.entries ≡ passing (keeps n) (records thread_key a.threads.places) = (set_was a sound id g is h stays handle from to from_is to_is [] from.rep p one.1.0).entries ∙ entries_then a sound id g is h stays handle from to from_is to_is [] n in
+      let was : p.entry.item.entries ≡ passing (keeps n) (records thread_key a.threads.places) = (set_was a sound id g is h stays handle from to from_is to_is [] [] from.rep p one.1.0).entries ∙ entries_then a sound id g is h stays handle from to from_is to_is [] [] n in
       let entry : p.entry.item.entries ≡ x.entries = ap (λ (e : Single WaitSet). e.item.entries) one.1.1.1 in
       omega (arith, counted, was, entry)
 
@@ -45,7 +45,7 @@ module _ (a : CoreParts) (sound : IsSoundCore a) (id : TableId ThreadKey) (g : G
       let was = recounted_each (λ n. n - 1) a.sets a.made.sets sound.tables.sets from.rep from.serial to.rep one.0 one.1.0 in
       let p = was.1.0 in
       let n = p.entry.item.number in
-      let kept : p.entry.item.entries ≡ passing (keeps n) (records thread_key a.threads.places) = (set_was a sound id g is h stays handle from to from_is to_is [] to.rep p was.1.1.0).entries ∙ entries_then a sound id g is h stays handle from to from_is to_is [] n in
+      let kept : p.entry.item.entries ≡ passing (keeps n) (records thread_key a.threads.places) = (set_was a sound id g is h stays handle from to from_is to_is [] [] to.rep p was.1.1.0).entries ∙ entries_then a sound id g is h stays handle from to from_is to_is [] [] n in
       let few = count_by-le-length (λ (e : ℕ × Thread). keeps n e.1) (records thread_key a.threads.places).list in
       let fit = records_fit thread_key a.threads.places in
       let places = sound.tables.threads.table.places_fit in

@@ -1,6 +1,7 @@
 pub mod FiledLemmas
 pub mod FirstLemmas
 pub mod WaiterLemmas
+pub mod WaitingLemmas
 pub mod WantedLemmas
 pub mod PickLemmas
 pub mod AlikeLemmas

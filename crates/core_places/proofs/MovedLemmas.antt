@@ -1,5 +1,5 @@
 -- A thread is written that gets another place, and the numbers of entries of sets: what else holds of the parts stays.
-use Rattle.core_records.proofs.Core.{ap, ap₂, AreChained, AreCounted, AtPlace, BlockedOn, callers_chain, callers_row, CallOf, chained, core_of, count_by, Each, EachEntry, Entry, entry_keyed, filings, follower, HasHome, HaveRowNodes, HeldIn, StartsIn, IfSome, is_host_call, is_of_instance, IsCallNamed, IsFollower, IsIndex, IsIndex-same_chains, IsRows, IsKeyed, IsSetKept, IsWhole, IsWorkNamed, length, List, None, Nothing, Option, part, CoreImage, place_chain, place_filing, ready_call_chain, ready_work_chain, refl, row, row_chain, SetOf, instance_queue_chain, size, Some, Spot, subst, Subtask, sym, Table, table_use, Target, thread_entry, ThreadOf, threads_of, UnderOf, WaitsOn, Where, with_nodes, WorkOf, ℕ, ◌*◌, ◌+◌, ◌∙◌, ◌≡◌}
+use Rattle.core_records.proofs.Core.{ap, ap₂, AreChained, AreCounted, AtPlace, BlockedOn, callers_chain, callers_row, CallOf, chained, core_of, count_by, Each, EachEntry, Entry, entry_keyed, filings, follower, HasHome, HaveRowNodes, HeldIn, StartsIn, IfSome, is_host_call, is_of_instance, IsCallNamed, IsFollower, IsIndex, IsIndex-same_chains, IsRows, IsKeyed, IsSetKept, IsWhole, IsWorkNamed, length, List, None, Nothing, Option, part, CoreImage, place_chain, place_filing, ready_call_chain, ready_work_chain, refl, row, row_chain, SetOf, instance_queue_chain, size, Some, Spot, subst, Subtask, sym, Table, table_use, Target, thread_entry, ThreadOf, threads_of, UnderOf, wait_chain, wait_filing, WaitsOn, Where, with_nodes, WorkOf, ℕ, ◌*◌, ◌+◌, ◌∙◌, ◌≡◌}
 use Rattle.core_records.specs.declared.{call_records.GuestTask.GuestTask, set_records.WaitSet.WaitSet, single.Single.Single, thread_records.Follower.Follower, thread_records.GuestThread.GuestThread, thread_records.Queued.Queued, work_records.WorkRecord.WorkRecord}
 use Rattle.core_places.proofs.AlikeLemmas.{found_alike, nodes_alike, place_alike, keyed_alike, stands_alike}
 use Rattle.core_places.specs.Moved.{Alike, still, still_thread, uncounted}
@@ -16,9 +16,9 @@ IsRows-alike chain chain' node Known Known' links list list' rows chains knows l
   owner = λ n c v link. let one = rows.owner n c v link in (one.0, chains one.0 ∙ one.1);
 }
 
-module _ (p : CoreImage) (whole : IsWhole p) (threads : Table (Single GuestThread)) (alike : Alike still_thread threads p.threads) (sets : Table (Single WaitSet)) (sets_alike : Alike uncounted sets p.sets) (places : List (Spot OrderKey)) where
+module _ (p : CoreImage) (whole : IsWhole p) (threads : Table (Single GuestThread)) (alike : Alike still_thread threads p.threads) (sets : Table (Single WaitSet)) (sets_alike : Alike uncounted sets p.sets) (places waits : List (Spot OrderKey)) where
   abbrev pub moved : CoreImage
-  moved = record p { threads = threads; sets = sets; places = places }
+  moved = record p { threads = threads; sets = sets; places = places; waits = waits }
 
   pub at_moved : (rep : ℕ) (t : Target) → AtPlace p rep t → AtPlace moved rep t
   at_moved rep Nothing at = tt
@@ -28,10 +28,10 @@ module _ (p : CoreImage) (whole : IsWhole p) (threads : Table (Single GuestThrea
   at_moved rep (SetOf x) at = (at.0, stands_alike uncounted sets p.sets sets_alike (λ (x : WaitSet). x.number) (λ x. refl) (λ (x : WaitSet). x.set) (λ s. s) (λ x. refl) rep x at.1)
 
   pub home_moved : (g : GuestThread) → HasHome p g → HasHome moved g
-  home_moved g h = record { call = h.call; there = h.there; instance = h.instance; barred = h.barred; within = h.within; place = at_moved g.state_target _ h.place; op_progress = at_moved g.op_target _ h.op_progress }
+  home_moved g h = record { call = h.call; there = h.there; instance = h.instance; barred = h.barred; waits = h.waits; within = h.within; place = at_moved g.state_target _ h.place; op_progress = at_moved g.op_target _ h.op_progress }
 
   call_moved : (g : GuestTask) → IsCallNamed p g → IsCallNamed moved g
-  call_moved g h = record { caller = at_moved g.maker _ h.caller; first = at_moved g.first (ThreadOf g.number) h.first; join = at_moved g.joined _ h.join; group = h.group; positive = h.positive }
+  call_moved g h = record { caller = at_moved g.maker _ h.caller; first = at_moved g.first (ThreadOf g.number) h.first; join = at_moved g.joined _ h.join; group = h.group; positive = h.positive; waits = h.waits }
 
   work_moved : (w : WorkRecord) → IsWorkNamed p w → IsWorkNamed moved w
   work_moved w h = record { caller = at_moved w.maker _ h.caller; join = at_moved w.joined _ h.join; group = h.group }
@@ -71,9 +71,10 @@ module _ (p : CoreImage) (whole : IsWhole p) (threads : Table (Single GuestThrea
   callers_moved : (n : ℕ) → callers_chain moved n ≡ callers_chain p n
   callers_moved n = found_alike still_thread threads p.threads alike (λ (g : GuestThread). g.number) (λ g. refl) (λ (g : GuestThread). g.callers) (λ g. refl) n
 
-  chained_moved : IsIndex (place_chain p) places (filings place_filing threads) → AreChained moved
-  chained_moved index = record {
-    places = IsIndex-same_chains (place_chain p) places (filings place_filing threads) index (place_chain moved) place_chain_moved;
+  chained_moved : IsIndex (place_chain p) places (filings (place_filing p.version) threads) → IsIndex (wait_chain p) waits (filings wait_filing threads) → AreChained moved
+  chained_moved index wait_index = record {
+    places = IsIndex-same_chains (place_chain p) places (filings (place_filing p.version) threads) index (place_chain moved) place_chain_moved;
+    waits = wait_index;
     ready_calls = IsIndex-same_chains (ready_call_chain p) p.ready_calls _ whole.chained.ready_calls (ready_call_chain moved) ready_calls_moved;
     ready_works = IsIndex-same_chains (ready_work_chain p) p.ready_works _ whole.chained.ready_works (ready_work_chain moved) ready_works_moved;
     polled = whole.chained.polled;
@@ -108,15 +109,15 @@ module _ (p : CoreImage) (whole : IsWhole p) (threads : Table (Single GuestThrea
     results = whole.counted.results;
   }
 
-  pub moved_whole : EachEntry (HasHome moved) threads → IsIndex (place_chain p) places (filings place_filing threads) → size (core_of moved).threads ≡ size (core_of p).threads → size (core_of moved).sets ≡ size (core_of p).sets → ((k : ℕ) → threads_of k (core_of moved) ≡ threads_of k (core_of p)) → EachEntry (IsSetKept (core_of moved)) sets → IsWhole moved
-  moved_whole homes index same_threads same_sets same_calls sets_kept = record {
+  pub moved_whole : EachEntry (HasHome moved) threads → IsIndex (place_chain p) places (filings (place_filing p.version) threads) → IsIndex (wait_chain p) waits (filings wait_filing threads) → size (core_of moved).threads ≡ size (core_of p).threads → size (core_of moved).sets ≡ size (core_of p).sets → ((k : ℕ) → threads_of k (core_of moved) ≡ threads_of k (core_of p)) → EachEntry (IsSetKept (core_of moved)) sets → IsWhole moved
+  moved_whole homes index wait_index same_threads same_sets same_calls sets_kept = record {
     named = record {
       threads = homes;
       calls = λ rep q at. call_moved q.entry.item (whole.named.calls rep q at);
       works = λ rep q at. work_moved q.entry.item (whole.named.works rep q at);
       switch = switch_moved;
     };
-    chained = chained_moved index;
+    chained = chained_moved index wait_index;
     nodes = nodes_moved;
     counted = counted_moved same_threads same_sets same_calls sets_kept;
   }

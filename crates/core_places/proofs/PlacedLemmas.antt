@@ -1,7 +1,7 @@
 -- A thread with another place: the core is sound, and contracts see just that.
 use Rattle.core_records.specs.Keys.{thread_seat_key}
 use Rattle.machine_rules.specs.Picks.{ThreadSeat}
-use Rattle.core_records.proofs.Core.{ap, ap₂, AreHandlesNamed, AtPlace, bare, bare_thread, Bool, call_instance, call_key, callers_in, CallOf, change, cond, core_of, EachEntry, entries_for, entry_of, filings, filings_at, found_record_at, get, get-records, HandleKind, HasHome, HasNumber, op_progress_target, IfSome, is_made, IsHeldNamed, IsIndex, IsIndex-with_entry, IsSetKept, IsSome, IsSoundCore, IsWhole, item_at, item_of, keeps_set, key_in, kinds, link_for, link_of, List, list_of, loose_thread, mapped, mapped-with_entry, mapped-with_entry_same, None, number_of, Ok, on_core, on_item, on_thread, Option, option_and_then, option_map, OwnsHandle, CoreImage, parts_of, passing, Place, place_at, place_chain, place_filing, place_target, Placed, Records, records, Refiles, refl, Rep, seen, Set, set_key, set_of, SetKey, SetOf, size, slice_get, Some, Spot, StateView, subst, sym, Table, TableId, Tag, tags_in, Thread, thread_at, thread_key, thread_of, ThreadKey, ThreadOf, true, WaitableKind, Where, where_at, with_entry, WorkOf, ℕ, ◌+◌, ◌-◌, ◌<◌, ◌==◌, ◌∙◌, ◌≡◌}
+use Rattle.core_records.proofs.Core.{ap, ap₂, AreHandlesNamed, AtPlace, bare, bare_thread, Bool, call_instance, call_key, callers_in, CallOf, change, cond, core_of, CoreImage, EachEntry, entries_for, entry_of, Filing, filings, filings_at, found_record_at, get, get-records, HandleKind, HasHome, HasNumber, IfSome, is_made, is_some, IsHeldNamed, IsIndex, IsIndex-with_entry, IsIndex-with_entry_same, IsSetKept, IsSome, IsSoundCore, IsWhole, item_at, item_of, keeps_set, keeps_waits, key_in, kinds, link_for, link_of, List, list_of, loose_thread, mapped, mapped-with_entry, mapped-with_entry_same, None, number_of, Ok, on_core, on_item, on_thread, op_progress_target, Option, option_and_then, option_map, OwnsHandle, parts_of, passing, Place, place_at, place_chain, place_filing, place_target, Placed, Records, records, Refiles, refl, Rep, seen, Set, set_key, set_of, SetKey, SetOf, size, slice_get, Some, Spot, StateView, subst, sym, Table, TableId, Tag, tags_in, Thread, thread_at, thread_key, thread_of, ThreadKey, ThreadOf, true, WaitableKind, Where, where_at, with_entry, WorkOf, ℕ, ◌+◌, ◌-◌, ◌<◌, ◌==◌, ◌∙◌, ◌≡◌}
 use Rattle.core_records.specs.declared.{instance_records.InstanceRecord.InstanceRecord, parts.CoreParts.CoreParts, set_records.WaitSet.WaitSet, single.Single.Single, thread_records.GuestThread.GuestThread}
 use Rattle.core_records.proofs.HomeLemmas.{place_in_bare, thread_home}
 use Rattle.core_records.proofs.KeptLemmas.{passing_seconds, size_seconds}
@@ -17,7 +17,11 @@ use Rattle.core_places.specs.Moved.{Alike, entry_set, recounted, set_named, stil
 use Rattle.core_places.specs.Puts.{BecomesBy}
 use Rattle.core_queues.proofs.BareLemmas.{number_positive, place_mapped}
 use Rattle.table_lists.specs.declared.ordered_lists.OrderKey.{OrderKey}
-use Rattle.core_records.specs.RecordPlaces.{thread_order_key}
+use Rattle.core_records.specs.RecordPlaces.{member_order_key, order_entry, order_task, thread_order_key, wait_chain, wait_filing, waits_in}
+use Rattle.core_places.specs.Waits.{MayRefile, RefilesWait, wait_chain_at}
+use Rattle.core_places.specs.Waits.{wait_filing as wait_filing_at}
+use Rattle.core_places.specs.declared.waits.WaitFiling.{WaitFiling}
+use Rattle.table_links.specs.declared.links.Node.{Node}
 use Rattle.machine_data.specs.Read.{kind_of}
 use Rattle.core_primitives.specs.Barred.{bars_start}
 
@@ -38,7 +42,7 @@ module _ (a : CoreParts) (sound : IsSoundCore a) (id : TableId ThreadKey) (g : G
   abbrev pub bare_now : Table (Single GuestThread)
   bare_now = mapped (on_item bare_thread) threads_now
 
-  bare_put : bare_now ≡ with_entry id.rep (entry_of (bare_thread h)) bared.threads
+  pub bare_put : bare_now ≡ with_entry id.rep (entry_of (bare_thread h)) bared.threads
   bare_put = mapped-with_entry (on_item bare_thread) a.threads id.rep (entry_of h)
 
   pub stands : (p : Placed (Single GuestThread)) × ((place_at a.threads id.rep ≡ Some p) × ((p.serial ≡ id.serial) × (p.entry ≡ entry_of g)))
@@ -59,22 +63,22 @@ module _ (a : CoreParts) (sound : IsSoundCore a) (id : TableId ThreadKey) (g : G
 
   -- the thread's node is made, and a chain that it is to be filed in is live
   pub node_made : is_made a.places g.node.index ≡ true
-  node_made = subst (λ (e : Single GuestThread). is_made a.places e.item.node.index ≡ true) bare_entry (is_whole.chained.places.made id.rep _ (filings_at place_filing bared.threads id.rep (Some bare_placed) bare_stands))
+  node_made = subst (λ (e : Single GuestThread). is_made a.places e.item.node.index ≡ true) bare_entry (is_whole.chained.places.made id.rep _ (filings_at (place_filing a.version) bared.threads id.rep (Some bare_placed) bare_stands))
 
   -- the node of a thread that is in no chain has no link
   pub node_unlinked : ((i : ℕ) (b : Bool) → where_at i b g.thread.place ≡ None) → link_of a.places g.node.index ≡ None
   node_unlinked apart =
-      subst (λ (e : Single GuestThread). link_of a.places e.item.node.index ≡ link_for (place_chain bared) (record { node = e.item.node.index; key = where_at e.item.instance e.item.barred e.item.thread.place; value = thread_order_key id.rep e.item })) bare_entry
-      (is_whole.chained.places.has_link id.rep _ (filings_at place_filing bared.threads id.rep (Some bare_placed) bare_stands))
-      ∙ ap (λ k. link_for (place_chain bared) (record { node = g.node.index; key = k; value = thread_order_key id.rep g })) (apart g.instance g.barred)
+      subst (λ (e : Single GuestThread). link_of a.places e.item.node.index ≡ link_for (place_chain bared) (record { node = e.item.node.index; key = where_at e.item.instance e.item.barred e.item.thread.place; value = thread_order_key a.version id.rep e.item })) bare_entry
+      (is_whole.chained.places.has_link id.rep _ (filings_at (place_filing a.version) bared.threads id.rep (Some bare_placed) bare_stands))
+      ∙ ap (λ k. link_for (place_chain bared) (record { node = g.node.index; key = k; value = thread_order_key a.version id.rep g })) (apart g.instance g.barred)
 
   -- a thread that stays where it is stays filed
-  pub stays_filed : h.thread.place ≡ g.thread.place → Refiles a.places a.places g.node.index (link_for (place_chain bared) (record { node = g.node.index; key = where_at h.instance h.barred h.thread.place; value = thread_order_key id.rep h }))
-  stays_filed same = record {
-    here = subst (λ (e : Single GuestThread). link_of a.places e.item.node.index ≡ link_for (place_chain bared) (record { node = e.item.node.index; key = where_at e.item.instance e.item.barred e.item.thread.place; value = thread_order_key id.rep e.item })) bare_entry
-        (is_whole.chained.places.has_link id.rep _ (filings_at place_filing bared.threads id.rep (Some bare_placed) bare_stands))
-        ∙ (ap₂ (λ (x : GuestThread) p. link_for (place_chain bared) (record { node = g.node.index; key = where_at x.instance x.barred p; value = thread_order_key id.rep g })) (sym stays) (sym same)
-        ∙ ap (λ v. link_for (place_chain bared) (record { node = g.node.index; key = where_at h.instance h.barred h.thread.place; value = v })) (sym (ap (thread_order_key id.rep) stays)));
+  pub stays_filed : h.thread.place ≡ g.thread.place → h.thread.came ≡ g.thread.came → Refiles a.places a.places g.node.index (link_for (place_chain bared) (record { node = g.node.index; key = where_at h.instance h.barred h.thread.place; value = thread_order_key a.version id.rep h }))
+  stays_filed same came = record {
+    here = subst (λ (e : Single GuestThread). link_of a.places e.item.node.index ≡ link_for (place_chain bared) (record { node = e.item.node.index; key = where_at e.item.instance e.item.barred e.item.thread.place; value = thread_order_key a.version id.rep e.item })) bare_entry
+        (is_whole.chained.places.has_link id.rep _ (filings_at (place_filing a.version) bared.threads id.rep (Some bare_placed) bare_stands))
+        ∙ (ap₂ (λ (x : GuestThread) p. link_for (place_chain bared) (record { node = g.node.index; key = where_at x.instance x.barred p; value = thread_order_key a.version id.rep g })) (sym stays) (sym same)
+        ∙ ap (λ v. link_for (place_chain bared) (record { node = g.node.index; key = where_at h.instance h.barred h.thread.place; value = v })) (sym (ap₂ (λ (x : GuestThread) n. record { task = order_task a.version x.task_entry n; thread = order_entry a.version x.entry; place = id.rep }) stays came)));
     others = λ n other. refl;
     made = λ n made. made;
     live = λ c live. live;
@@ -89,10 +93,82 @@ module _ (a : CoreParts) (sound : IsSoundCore a) (id : TableId ThreadKey) (g : G
       by (Some k) (Some c) is = is_whole.chained.places.live k c is
 
   -- the links by the chain and the order key that the functions have
-  pub refiled : (p : Place) (chain : Option ℕ) (order_key : OrderKey) (links : List (Spot OrderKey)) → order_key ≡ thread_order_key id.rep g → option_and_then (place_chain bared) (where_at g.instance g.barred p) ≡ chain →
-      Refiles a.places links g.node.index (option_map (λ k. (k, order_key)) chain) → Refiles a.places links g.node.index (link_for (place_chain bared) (record { node = g.node.index; key = where_at g.instance g.barred p; value = thread_order_key id.rep g }))
+  pub refiled : (p : Place) (chain : Option ℕ) (order_key : OrderKey) (links : List (Spot OrderKey)) → order_key ≡ thread_order_key a.version id.rep g → option_and_then (place_chain bared) (where_at g.instance g.barred p) ≡ chain →
+      Refiles a.places links g.node.index (option_map (λ k. (k, order_key)) chain) → Refiles a.places links g.node.index (link_for (place_chain bared) (record { node = g.node.index; key = where_at g.instance g.barred p; value = thread_order_key a.version id.rep g }))
   refiled p chain order_key links order_key_is chain_is =
-      subst (Refiles a.places links g.node.index) (ap (λ r. option_map (λ k. (k, r)) chain) order_key_is ∙ ap (option_map (λ k. (k, thread_order_key id.rep g))) (sym chain_is))
+      subst (Refiles a.places links g.node.index) (ap (λ r. option_map (λ k. (k, r)) chain) order_key_is ∙ ap (option_map (λ k. (k, thread_order_key a.version id.rep g))) (sym chain_is))
+
+  -- ---- The waiting threads of a call
+
+  -- what the thread is among them, at this place with this node
+  abbrev wait_at : Place → Node → WaitFiling
+  wait_at p node = record { node = node; chain = wait_chain_at a g p; order_key = member_order_key g.entry id.rep }
+
+  abbrev wait_was : Node → Filing ℕ OrderKey
+  wait_was node = record {
+    node = node.index;
+    key = waits_in bare_placed.entry.item.thread.place bare_placed.entry.item.thread.call;
+    value = member_order_key bare_placed.entry.item.entry id.rep;
+  }
+
+  bare_wait : (w : Option Node) → g.wait ≡ w → wait_filing id.rep bare_placed.serial bare_placed.entry ≡ option_map wait_was w
+  bare_wait w is = ap (option_map wait_was) (ap (λ (e : Single GuestThread). e.item.wait) bare_entry ∙ is)
+
+  -- the node is made, and the chain is live
+  pub wait_may : (p : Place) → MayRefile a.waits (wait_filing_at a id.rep g p)
+  wait_may p = by g.wait refl
+    where
+      live : (k : Option ℕ) → IfSome (option_and_then (wait_chain bared) k) (λ c. IsSome (list_of a.waits c))
+      live None = tt
+      live (Some k) = found (wait_chain bared k) refl
+        where
+          found : (o : Option ℕ) → wait_chain bared k ≡ o → IfSome o (λ c. IsSome (list_of a.waits c))
+          found None at = tt
+          found (Some c) at = is_whole.chained.waits.live k c at
+
+      by : (w : Option Node) → g.wait ≡ w → MayRefile a.waits (wait_filing_at a id.rep g p)
+      by None is = subst (λ o. MayRefile a.waits (option_map (wait_at p) o)) (sym is) tt
+      by (Some node) is = subst (λ o. MayRefile a.waits (option_map (wait_at p) o)) (sym is)
+          (is_whole.chained.waits.made id.rep (wait_was node) (filings_at wait_filing bared.threads id.rep (Some bare_placed) bare_stands ∙ bare_wait (Some node) is), live (waits_in p g.thread.call))
+
+  -- a thread that waits as before stays filed
+  pub waits_stay : waits_in h.thread.place g.thread.call ≡ waits_in g.thread.place g.thread.call → RefilesWait a.waits a.waits (wait_filing_at a id.rep g h.thread.place)
+  waits_stay same = by g.wait refl
+    where
+      by : (w : Option Node) → g.wait ≡ w → RefilesWait a.waits a.waits (wait_filing_at a id.rep g h.thread.place)
+      by None is = subst (λ o. RefilesWait a.waits a.waits (option_map (wait_at h.thread.place) o)) (sym is) refl
+      by (Some node) is = subst (λ o. RefilesWait a.waits a.waits (option_map (wait_at h.thread.place) o)) (sym is) (record {
+        here = is_whole.chained.waits.has_link id.rep (wait_was node) (filings_at wait_filing bared.threads id.rep (Some bare_placed) bare_stands ∙ bare_wait (Some node) is)
+            ∙ (ap (λ (e : Single GuestThread). option_map (λ c. (c, member_order_key e.item.entry id.rep)) (option_and_then (wait_chain bared) (waits_in e.item.thread.place e.item.thread.call))) bare_entry
+            ∙ ap (λ k. option_map (λ c. (c, member_order_key g.entry id.rep)) (option_and_then (wait_chain bared) k)) (sym same));
+        others = λ n other. refl;
+        made = λ n made. made;
+        live = λ c live. live;
+      })
+
+  module _ (waits : List (Spot OrderKey)) (rewait : RefilesWait a.waits waits (wait_filing_at a id.rep g h.thread.place)) where
+    -- the chains of the waiting threads are as the records say
+    pub wait_index_now : IsIndex (wait_chain bared) waits (filings wait_filing bare_now)
+    wait_index_now = subst (λ (t : Table (Single GuestThread)). IsIndex (wait_chain bared) waits (filings wait_filing t)) (sym bare_put) (by g.wait refl)
+      where
+        wait_same : (w : Option Node) → g.wait ≡ w → h.wait ≡ w
+        wait_same w is = ap (λ (x : GuestThread). x.wait) stays ∙ is
+
+        wait_is : Node → Filing ℕ OrderKey
+        wait_is node = record { node = node.index; key = waits_in h.thread.place h.thread.call; value = member_order_key h.entry id.rep }
+
+        by : (w : Option Node) → g.wait ≡ w → IsIndex (wait_chain bared) waits (filings wait_filing (with_entry id.rep (entry_of (bare_thread h)) bared.threads))
+        by None is =
+            let same : waits ≡ a.waits = subst (λ o. RefilesWait a.waits waits (option_map (wait_at h.thread.place) o)) is rewait in
+            subst (λ (ws : List (Spot OrderKey)). IsIndex (wait_chain bared) ws (filings wait_filing (with_entry id.rep (entry_of (bare_thread h)) bared.threads))) (sym same)
+            (IsIndex-with_entry_same wait_filing (wait_chain bared) bared.threads a.waits is_whole.chained.waits id.rep bare_placed bare_stands (entry_of (bare_thread h))
+            (ap (option_map wait_is) (wait_same None is) ∙ sym (bare_wait None is)))
+        by (Some node) is =
+            let one : Refiles a.waits waits node.index (option_map (λ c. (c, member_order_key g.entry id.rep)) (option_and_then (wait_chain bared) (waits_in h.thread.place g.thread.call))) =
+            subst (λ o. RefilesWait a.waits waits (option_map (wait_at h.thread.place) o)) is rewait in
+            IsIndex-with_entry wait_filing (wait_chain bared) bared.threads a.waits is_whole.chained.waits id.rep bare_placed bare_stands waits (entry_of (bare_thread h))
+            (wait_was node) (wait_is node) (bare_wait (Some node) is) (ap (option_map wait_is) (wait_same (Some node) is)) refl
+            (subst (λ (x : GuestThread). Refiles a.waits waits node.index (option_map (λ c. (c, member_order_key x.entry id.rep)) (option_and_then (wait_chain bared) (waits_in h.thread.place x.thread.call)))) (sym stays) one)
 
   module _ (from to : TableId SetKey) (from_is : set_of (seen a) from ≡ set_named (entry_set g.thread.place g.thread.op_progress) (seen a).core) (to_is : set_of (seen a) to ≡ set_named (entry_set h.thread.place h.thread.op_progress) (seen a).core) where
     abbrev pub sets_less : Table (Single WaitSet)
@@ -116,12 +192,12 @@ module _ (a : CoreParts) (sound : IsSoundCore a) (id : TableId ThreadKey) (g : G
     to_number : (n : ℕ) → 0 < n → IsSome (get (seen a).core.sets n) → (n == number_of set_key sets_less to.rep to.serial) ≡ is_the n (entry_set h.thread.place h.thread.op_progress)
     to_number n positive there = ap (λ m. n == m) (number_of_alike uncounted set_key (λ e. refl) sets_less a.sets less_alike to.rep to.serial ∙ (sym (set_shown a to) ∙ to_is)) ∙ set_is_the (entry_set h.thread.place h.thread.op_progress) (seen a).core n positive there
 
-    module _ (places : List (Spot OrderKey)) where
+    module _ (places waits : List (Spot OrderKey)) where
       abbrev pub placed_after : CoreParts
-      placed_after = record a { threads = threads_now; sets = sets_now; places = places }
+      placed_after = record a { threads = threads_now; sets = sets_now; places = places; waits = waits }
 
       abbrev pub after : CoreImage
-      after = moved bared is_whole bare_now threads_alike sets_now sets_alike places
+      after = moved bared is_whole bare_now threads_alike sets_now sets_alike places waits
 
       pub entries_then : (n : ℕ) → entries_for n (core_of bared) ≡ passing (keeps n) (records thread_key a.threads.places)
       entries_then n = ap (passing (λ t. keeps_set n t t.place)) (bare_records a.threads) ∙ passing_seconds loose_thread (λ t. keeps_set n t t.place) (records thread_key a.threads.places)
@@ -176,27 +252,29 @@ module _ (a : CoreParts) (sound : IsSoundCore a) (id : TableId ThreadKey) (g : G
               there = subst (λ (x : GuestThread). 0 < x.thread.call) (sym stays) was.there;
               instance = subst (λ (x : GuestThread). call_instance x.thread.call (core_of bared) ≡ x.instance) (sym stays) was.instance;
               barred = subst (λ (x : GuestThread). bars_start x.thread.explicit (kind_of x.thread.call (core_of bared)) ≡ x.barred) (sym stays) was.barred;
+              waits = subst (λ (x : GuestThread). keeps_waits bared.version (kind_of x.thread.call (core_of bared)) ≡ is_some x.wait) (sym stays) was.waits;
               within = subst (λ (x : GuestThread). IsSome (slice_get bared.instances x.instance)) (sym stays) was.within;
-              place = at_moved bared is_whole bare_now threads_alike sets_now sets_alike places h.state_target _ (place_in_bare a h.state_target _ at_place);
-              op_progress = at_moved bared is_whole bare_now threads_alike sets_now sets_alike places h.op_target _ (place_in_bare a h.op_target _ at_op_progress);
+              place = at_moved bared is_whole bare_now threads_alike sets_now sets_alike places waits h.state_target _ (place_in_bare a h.state_target _ at_place);
+              op_progress = at_moved bared is_whole bare_now threads_alike sets_now sets_alike places waits h.op_target _ (place_in_bare a h.op_target _ at_op_progress);
             }
 
         homes_now : EachEntry (HasHome after) bare_now
         homes_now = subst (EachEntry (HasHome after)) (sym bare_put)
             (each_written bared.threads id.rep bare_placed bare_stands (HasHome after) (bare_thread h) home_now
-            (λ r q at. home_moved bared is_whole bare_now threads_alike sets_now sets_alike places q.entry.item (is_whole.named.threads r q at)))
+            (λ r q at. home_moved bared is_whole bare_now threads_alike sets_now sets_alike places waits q.entry.item (is_whole.named.threads r q at)))
 
-        module _ (re : Refiles a.places places g.node.index (link_for (place_chain bared) (record { node = g.node.index; key = where_at h.instance h.barred h.thread.place; value = thread_order_key id.rep h }))) where
-          index_now : IsIndex (place_chain bared) places (filings place_filing bare_now)
-          index_now = subst (λ (t : Table (Single GuestThread)). IsIndex (place_chain bared) places (filings place_filing t)) (sym bare_put)
-              (IsIndex-with_entry place_filing (place_chain bared) bared.threads a.places is_whole.chained.places id.rep bare_placed bare_stands places (entry_of (bare_thread h))
-              (record { node = bare_placed.entry.item.node.index; key = where_at bare_placed.entry.item.instance bare_placed.entry.item.barred bare_placed.entry.item.thread.place; value = thread_order_key id.rep bare_placed.entry.item })
-              (record { node = h.node.index; key = where_at h.instance h.barred h.thread.place; value = thread_order_key id.rep h })
+        module _ (re : Refiles a.places places g.node.index (link_for (place_chain bared) (record { node = g.node.index; key = where_at h.instance h.barred h.thread.place; value = thread_order_key a.version id.rep h })))
+            (rewait : RefilesWait a.waits waits (wait_filing_at a id.rep g h.thread.place)) where
+          index_now : IsIndex (place_chain bared) places (filings (place_filing a.version) bare_now)
+          index_now = subst (λ (t : Table (Single GuestThread)). IsIndex (place_chain bared) places (filings (place_filing a.version) t)) (sym bare_put)
+              (IsIndex-with_entry (place_filing a.version) (place_chain bared) bared.threads a.places is_whole.chained.places id.rep bare_placed bare_stands places (entry_of (bare_thread h))
+              (record { node = bare_placed.entry.item.node.index; key = where_at bare_placed.entry.item.instance bare_placed.entry.item.barred bare_placed.entry.item.thread.place; value = thread_order_key a.version id.rep bare_placed.entry.item })
+              (record { node = h.node.index; key = where_at h.instance h.barred h.thread.place; value = thread_order_key a.version id.rep h })
               refl refl (ap (λ (x : GuestThread). x.node.index) stays ∙ sym (ap (λ (e : Single GuestThread). e.item.node.index) bare_entry))
-              (subst (λ n. Refiles a.places places n (link_for (place_chain bared) (record { node = h.node.index; key = where_at h.instance h.barred h.thread.place; value = thread_order_key id.rep h }))) (sym (ap (λ (e : Single GuestThread). e.item.node.index) bare_entry)) re))
+              (subst (λ n. Refiles a.places places n (link_for (place_chain bared) (record { node = h.node.index; key = where_at h.instance h.barred h.thread.place; value = thread_order_key a.version id.rep h }))) (sym (ap (λ (e : Single GuestThread). e.item.node.index) bare_entry)) re))
 
           whole_now : IsWhole after
-          whole_now = moved_whole bared is_whole bare_now threads_alike sets_now sets_alike places homes_now index_now
+          whole_now = moved_whole bared is_whole bare_now threads_alike sets_now sets_alike places waits homes_now index_now (wait_index_now waits rewait)
               (ap size (bare_records threads_now) ∙ (size_seconds loose_thread (records thread_key threads_now.places) ∙ (threads_size a sound id.rep id.serial g is h same_number ∙ sym (ap size (bare_records a.threads) ∙ size_seconds loose_thread (records thread_key a.threads.places)))))
               (ap size (sets_same sets_now a.sets sets_alike))
               (λ k. ap (passing (λ t. t.call == k)) (bare_records threads_now) ∙ (passing_seconds loose_thread (λ t. t.call == k) (records thread_key threads_now.places)
@@ -205,18 +283,18 @@ module _ (a : CoreParts) (sound : IsSoundCore a) (id : TableId ThreadKey) (g : G
               sets_kept
 
           held_now : (kind : HandleKind) (r : Rep) → IsHeldNamed (kinds bared) kind r → IsHeldNamed (kinds after) kind r
-          held_now (HandleKind.Waitable WaitableKind.GuestSubtask) r at = at_moved bared is_whole bare_now threads_alike sets_now sets_alike places r.id (CallOf r.serial) at
-          held_now (HandleKind.Waitable WaitableKind.HostSubtask) r at = at_moved bared is_whole bare_now threads_alike sets_now sets_alike places r.id (WorkOf r.serial) at
+          held_now (HandleKind.Waitable WaitableKind.GuestSubtask) r at = at_moved bared is_whole bare_now threads_alike sets_now sets_alike places waits r.id (CallOf r.serial) at
+          held_now (HandleKind.Waitable WaitableKind.HostSubtask) r at = at_moved bared is_whole bare_now threads_alike sets_now sets_alike places waits r.id (WorkOf r.serial) at
           held_now (HandleKind.Waitable WaitableKind.Stream) r at = at
           held_now (HandleKind.Waitable WaitableKind.Future) r at = at
-          held_now HandleKind.Set r at = at_moved bared is_whole bare_now threads_alike sets_now sets_alike places r.id (SetOf r.serial) at
+          held_now HandleKind.Set r at = at_moved bared is_whole bare_now threads_alike sets_now sets_alike places waits r.id (SetOf r.serial) at
 
           handles_now : (r : InstanceRecord) → AreHandlesNamed (kinds bared) r → AreHandlesNamed (kinds after) r
           handles_now r named = record {
             small = named.small;
             small_threads = named.small_threads;
             handles = λ n x at. held_now x.kind x.rep (named.handles n x at);
-            thread_handles = λ n x at. at_moved bared is_whole bare_now threads_alike sets_now sets_alike places x.id (ThreadOf x.serial) (named.thread_handles n x at);
+            thread_handles = λ n x at. at_moved bared is_whole bare_now threads_alike sets_now sets_alike places waits x.id (ThreadOf x.serial) (named.thread_handles n x at);
           }
 
           owns_now : OwnsHandle (parts_of a) h
@@ -270,10 +348,11 @@ module _ (a : CoreParts) (sound : IsSoundCore a) (id : TableId ThreadKey) (g : G
 
       -- the tables as the functions leave them
       pub placed_becomes : AtPlace (parts_of a) h.state_target (place_target h.thread.place) → AtPlace (parts_of a) h.op_target (op_progress_target h.thread.op_progress) →
-          Refiles a.places places g.node.index (link_for (place_chain bared) (record { node = g.node.index; key = where_at h.instance h.barred h.thread.place; value = thread_order_key id.rep h })) →
+          Refiles a.places places g.node.index (link_for (place_chain bared) (record { node = g.node.index; key = where_at h.instance h.barred h.thread.place; value = thread_order_key a.version id.rep h })) →
+          RefilesWait a.waits waits (wait_filing_at a id.rep g h.thread.place) →
           (f : Thread → Thread) → f g.thread ≡ h.thread → (threads : Table (Single GuestThread)) → threads ≡ threads_now →
-          (sets : Table (Single WaitSet)) → sets ≡ sets_now → BecomesBy a (record a { threads = threads; sets = sets; places = places }) (on_thread (thread_of (seen a) id) f)
-      placed_becomes at_place at_op_progress re f is_f threads threads_is sets sets_is =
-          subst (λ (t : Table (Single GuestThread)). BecomesBy a (record a { threads = t; sets = sets; places = places }) (on_thread (thread_of (seen a) id) f)) (sym threads_is)
+          (sets : Table (Single WaitSet)) → sets ≡ sets_now → BecomesBy a (record a { threads = threads; sets = sets; places = places; waits = waits }) (on_thread (thread_of (seen a) id) f)
+      placed_becomes at_place at_op_progress re rewait f is_f threads threads_is sets sets_is =
+          subst (λ (t : Table (Single GuestThread)). BecomesBy a (record a { threads = t; sets = sets; places = places; waits = waits }) (on_thread (thread_of (seen a) id) f)) (sym threads_is)
           (subst (λ (t : Table (Single WaitSet)). BecomesBy a (record placed_after { sets = t }) (on_thread (thread_of (seen a) id) f)) (sym sets_is)
-          (record { sound = placed_sound at_place at_op_progress re; new = placed_seen f is_f }))
+          (record { sound = placed_sound at_place at_op_progress re rewait; new = placed_seen f is_f }))

@@ -1,5 +1,5 @@
 -- What an id names is at the place of the id, and its chains are those of its number.
-use Rattle.core_records.proofs.Core.{ap, AtPlace, bare, bare_call, bare_thread, bare_work, BlockedOn, call_of, CallOf, found_record, GuestTaskKey, HostTaskKey, IsSoundCore, item_at, item_of, mapped, None, Ok, on_item, parts_of, place_chain, refl, seen, set_of, SetKey, SetOf, Some, SoundTable, subst, Subtask, sym, Table, TableId, thread_of, ThreadKey, ThreadOf, UnderOf, WaitsOn, work_of, WorkOf, ℕ, ◌∙◌, ◌≡◌}
+use Rattle.core_records.proofs.Core.{ap, AtPlace, bare, bare_call, bare_thread, bare_work, BlockedOn, call_of, CallOf, found_record, GuestTaskKey, HostTaskKey, IsSoundCore, item_at, item_of, mapped, None, Ok, on_item, option_and_then, parts_of, place_chain, refl, seen, set_of, SetKey, SetOf, Some, SoundTable, subst, Subtask, sym, Table, TableId, thread_of, ThreadKey, ThreadOf, UnderOf, wait_chain, WaitsOn, work_of, WorkOf, ℕ, ◌∙◌, ◌≡◌}
 use Rattle.core_records.specs.declared.{call_records.GuestTask.GuestTask, parts.CoreParts.CoreParts, set_records.WaitSet.WaitSet, single.Single.Single, thread_records.GuestThread.GuestThread, work_records.WorkRecord.WorkRecord}
 use Rattle.core_records.proofs.HomeLemmas.{call_at_place, set_at_place, thread_at_place, work_at_place}
 use Rattle.core_records.proofs.TableLemmas.{found_mapped}
@@ -41,7 +41,17 @@ module _ (a : CoreParts) where
   unfolding mapped
   work_blocked_bare n = found_mapped (λ (e : Single WorkRecord). Some (e.item.number, e.item.blocked)) (λ (e : Single WorkRecord). Some (e.item.number, e.item.blocked)) (on_item bare_work) (λ c. c) (λ e. refl) n a.works.places ∙ id_same _
 
+  waits_bare : (n : ℕ) → wait_chain (bare (parts_of a)) n ≡ option_and_then (λ c. c) (found_record (λ (e : Single GuestTask). Some (e.item.number, e.item.waits)) n a.calls.places)
+  unfolding mapped
+  waits_bare n = ap (option_and_then (λ c. c)) (found_mapped (λ (e : Single GuestTask). Some (e.item.number, e.item.waits)) (λ (e : Single GuestTask). Some (e.item.number, e.item.waits)) (on_item bare_call) (λ c. c) (λ e. refl) n a.calls.places ∙ id_same _)
+
   module _ (sound : IsSoundCore a) where
+    pub waits_is : (n rep serial : ℕ) (g : GuestTask) → g.number ≡ n → Ok g ≡ item_at item_of a.calls rep serial → wait_chain (bare (parts_of a)) n ≡ g.waits
+    unfolding IsSoundCore
+    waits_is n rep serial g same is =
+        ap (wait_chain (bare (parts_of a))) (sym same)
+        ∙ (waits_bare g.number ∙ ap (option_and_then (λ c. c)) (kept_under (λ (g : GuestTask). g.number) (λ (g : GuestTask). g.call) (λ (g : GuestTask). g.waits) a.calls a.made.threads sound.tables.calls rep serial g is))
+
     pub under_is : (n rep serial : ℕ) (g : GuestThread) → g.number ≡ n → Ok g ≡ item_at item_of a.threads rep serial → place_chain (bare (parts_of a)) (UnderOf n) ≡ Some g.under
     unfolding IsSoundCore
     under_is n rep serial g same is = ap (λ m. place_chain (bare (parts_of a)) (UnderOf m)) (sym same) ∙ (under_bare g.number ∙ kept_under (λ (g : GuestThread). g.number) (λ (g : GuestThread). g.thread) (λ (g : GuestThread). g.under) a.threads a.made.threads sound.tables.threads rep serial g is)

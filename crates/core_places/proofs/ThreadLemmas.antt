@@ -1,5 +1,5 @@
 -- Primitives on one thread: its record is read, or there is none.
-use Rattle.core_records.proofs.Core.{ap, AtPlace, change, changed, entry_of, get, OpProgress, op_progress_target, IsSoundCore, item_at, item_of, mapped-with_entry_same, None, number_in, Ok, on_core, on_item, on_thread, option_map, option_map_or, Option, parts_of, Place, ready_why, record_at, refl, Result, seen, set_of, set_place, SetKey, Some, StateView, subst, sym, TableId, Thread, thread_key, thread_of, ThreadKey, Why, why_of, why_target, with_entry, ℕ, ◌∙◌, ◌≡◌}
+use Rattle.core_records.proofs.Core.{ap, AtPlace, Bool, change, changed, entry_of, false, get, IsSoundCore, item_at, item_of, mapped-with_entry_same, None, number_in, Ok, on_core, on_item, on_thread, op_progress_target, OpProgress, Option, option_map, option_map_or, parts_of, Place, ready_why, record_at, refl, Result, seen, set_of, set_place, SetKey, Some, StateView, subst, sym, TableId, Thread, thread_key, thread_of, ThreadKey, waits_in, where_at, Why, why_of, why_target, with_entry, ℕ, ◌∙◌, ◌≡◌}
 use Rattle.core_records.specs.declared.{parts.CoreParts.CoreParts, thread_records.GuestThread.GuestThread}
 use Rattle.core_records.proofs.HomeLemmas.{place_bare, thread_home}
 use Rattle.core_records.proofs.KindLemmas.{absent, item_stands}
@@ -42,6 +42,11 @@ alone_unset a o p h none alone = none ∙ sym (ap (λ x. set_named x (seen a).co
 -- no set counts a thread that runs
 pub runs_unset : (a : CoreParts) (o : TableId SetKey) (p : Place) (h : OpProgress) → set_of (seen a) o ≡ 0 → p ≡ Place.Running → set_of (seen a) o ≡ set_named (entry_set p h) (seen a).core
 runs_unset a o p h none runs = none ∙ sym (ap (λ q. set_named (entry_set q h) (seen a).core) runs)
+
+-- a thread that is alone doesn't wait
+pub alone_waits : (p : Place) (k : ℕ) → ((i : ℕ) (b : Bool) → where_at i b p ≡ None) → None ≡ waits_in p k
+alone_waits (Place.Waiting x by_callback) k none = absurd (let one = none 0 false in cc)
+alone_waits _ k none = refl
 
 module _ (a : CoreParts) (sound : IsSoundCore a) (id : TableId ThreadKey) (g : GuestThread) (is : Ok g ≡ item_at item_of a.threads id.rep id.serial) where
   pub op_progress_at : AtPlace (parts_of a) g.op_target (op_progress_target g.thread.op_progress)

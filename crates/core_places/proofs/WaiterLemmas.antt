@@ -60,16 +60,16 @@ module _ (a : CoreParts) (sound : IsSoundCore a) (rep serial : ℕ) (g : WaitSet
   -- an empty chain, no waiter
   pub no_waiter : (x : ℕ) → g.number ≡ x → ((v : OrderKey) → Holds a.places g.waiters v → ⊥) → has_waiter x (seen a).core ≡ false
   unfolding seen has_waiter
-  no_waiter x same empty = ap (λ y. has_waiter y (seen a).core) (sym same) ∙ none_passes place_filing (place_chain (bare (parts_of a))) a.threads a.places (places_filed a sound) (WaitsOn g.number) g.waiters waiters_chain thread_key (λ (e : ℕ × Thread). is_waiting_on g.number e.1.place) (place_tests (WaitsOn g.number) (is_waiting_on g.number) (waits_passes g.number) (waits_filed g.number)) empty
+  no_waiter x same empty = ap (λ y. has_waiter y (seen a).core) (sym same) ∙ none_passes (place_filing a.version) (place_chain (bare (parts_of a))) a.threads a.places (places_filed a sound) (WaitsOn g.number) g.waiters waiters_chain thread_key (λ (e : ℕ × Thread). is_waiting_on g.number e.1.place) (place_tests a.version (WaitsOn g.number) (is_waiting_on g.number) (waits_passes g.number) (waits_filed g.number)) empty
 
   -- what the chain holds is the place of a waiter
   module _ (v : OrderKey) (holds : Holds a.places g.waiters v) where
     pub waiter_held : (x n : ℕ) → g.number ≡ x → n ≡ number_in (record_at thread_key a.threads.places v.place) → (is_waiter x n (seen a).core ≡ true) × (0 < n)
     unfolding seen IsSoundCore
     waiter_held x n same at =
-        let one = held_passes place_filing (place_chain (bare (parts_of a))) a.threads a.places (places_filed a sound) (WaitsOn g.number) g.waiters waiters_chain thread_key (λ (e : ℕ × Thread). is_waiting_on g.number e.1.place) (place_tests (WaitsOn g.number) (is_waiting_on g.number) (waits_passes g.number) (waits_filed g.number)) sound.tables.threads.apart v holds in
-        let here : one.place ≡ v.place = ap (λ (f : Filing Where OrderKey). f.value.place) (same_Some (record { node = one.placed.entry.item.node.index; key = where_at one.placed.entry.item.instance one.placed.entry.item.barred one.placed.entry.item.thread.place; value = thread_order_key one.place one.placed.entry.item }) one.filed one.is_said) ∙ ap (λ (s : OrderKey). s.place) one.is_value in
-        let number : one.entry.0 ≡ n = passes_number (λ (h : GuestThread). h.number) (λ (h : GuestThread). h.thread) place_filing a.threads (λ (e : ℕ × Thread). is_waiting_on g.number e.1.place) v n one here at in
+        let one = held_passes (place_filing a.version) (place_chain (bare (parts_of a))) a.threads a.places (places_filed a sound) (WaitsOn g.number) g.waiters waiters_chain thread_key (λ (e : ℕ × Thread). is_waiting_on g.number e.1.place) (place_tests a.version (WaitsOn g.number) (is_waiting_on g.number) (waits_passes g.number) (waits_filed g.number)) sound.tables.threads.apart v holds in
+        let here : one.place ≡ v.place = ap (λ (f : Filing Where OrderKey). f.value.place) (same_Some (record { node = one.placed.entry.item.node.index; key = where_at one.placed.entry.item.instance one.placed.entry.item.barred one.placed.entry.item.thread.place; value = thread_order_key a.version one.place one.placed.entry.item }) one.filed one.is_said) ∙ ap (λ (s : OrderKey). s.place) one.is_value in
+        let number : one.entry.0 ≡ n = passes_number (λ (h : GuestThread). h.number) (λ (h : GuestThread). h.thread) (place_filing a.version) a.threads (λ (e : ℕ × Thread). is_waiting_on g.number e.1.place) v n one here at in
         let found : get (records thread_key a.threads.places) n ≡ Some one.entry.1 = ap (get (records thread_key a.threads.places)) (sym number) ∙ one.is_found in (
           ap (λ o. option_map_or (is_waiting_on x) (option_map (λ (t : Thread). t.place) o) false) found ∙ (ap (λ y. is_waiting_on y one.entry.1.place) (sym same) ∙ one.passes),
           subst (λ m. 0 < m) (sym (at ∙ ap (λ r. number_in (record_at thread_key a.threads.places r)) (sym here) ∙ ap (λ o. number_in (key_in thread_key o)) one.stands)) (number_positive (λ (h : GuestThread). h.number) (λ (h : GuestThread). h.thread) a.threads a.made.threads sound.tables.threads one.place one.placed one.stands),

@@ -1,5 +1,5 @@
 -- What is picked first is what is wanted, else what is least by the places of the resource table.
-use Rattle.core_records.proofs.Core.{ap, ap₂, Bool, Call, call_key, call_of, cond, eq-eqb, eqb-true, false, found_at, get, get-records, IfSome, is_waiter, is_waiting_on, IsSoundCore, item_at, item_in, item_of, key_in, ne_eqb, None, number_of, Ok, Option, option_map, option_map_or, place_at, Placed, record_found, records, refl, same_Some, seen, Some, SoundTable, subst, sym, Table, TableId, Thread, thread_key, thread_of, ThreadKey, true, Work, work_key, work_of, ℕ, ◌<◌, ◌∙◌, ◌≡◌}
+use Rattle.core_records.proofs.Core.{ap, ap₂, Bool, Call, call_key, cond, eq-eqb, eqb-true, false, found_at, get, get-records, IfSome, is_waiter, is_waiting_on, IsSoundCore, item_at, item_in, item_of, key_in, ne_eqb, None, number_of, Ok, Option, option_map, option_map_or, place_at, Placed, record_found, records, refl, same_Some, seen, Some, subst, sym, Table, TableId, Thread, thread_key, thread_of, ThreadKey, true, Work, work_key, ℕ, ◌<◌, ◌∙◌, ◌≡◌}
 use Rattle.core_records.specs.declared.{call_records.GuestTask.GuestTask, parts.CoreParts.CoreParts, single.Single.Single, thread_records.GuestThread.GuestThread, work_records.WorkRecord.WorkRecord}
 use Rattle.core_queues.proofs.SeatLemmas.{seat_read}
 use Rattle.core_records.proofs.Core.{found, number_in as key_number}
@@ -8,15 +8,16 @@ use Rattle.core_records.proofs.ReadLemmas.{call_shown, thread_shown, work_shown}
 use Rattle.core_places.specs.Picks.{IsLeastMember, IsLeastWaiter, IsWantedMember, IsWantedWaiter, thread_order}
 use Rattle.core_primitives.specs.Names.{number_in, subtask_in}
 use Rattle.core_primitives.specs.Preferences.{preference}
-use Rattle.core_primitives.specs.StateView.{StateView, Tags, thread_number}
 use Rattle.core_primitives.specs.declared.names.SubtaskId.{SubtaskId}
 use Rattle.core_primitives.specs.declared.names.SubtaskId.TheVariants as subtask_ids
 use Rattle.core_records.specs.RecordPlaces.{ready_in}
-use Rattle.machine_data.specs.Read.{is_in_set, is_ready_member, same_subtask}
+use Rattle.machine_data.specs.Read.{came_of, is_in_set, is_ready_member, same_subtask}
 use Rattle.machine_data.specs.declared.records.Join.{Join}
 use Rattle.machine_data.specs.declared.records.Subtask.{Subtask}
+use Rattle.machine_data.specs.declared.scenario.Version.TheVariants as version
+use Rattle.machine_data.specs.declared.scenario.Version.{Version}
 use Rattle.machine_data.specs.declared.statuses.Status.{Status}
-use Rattle.machine_rules.specs.Picks.{IsFirstMember, IsFirstWaiter, Seats, ThreadSeat, call_seat, member_or, seat_before, subtask_before, thread_before, thread_seat, waiter_or, work_seat}
+use Rattle.machine_rules.specs.Picks.{IsFirstMember, IsFirstWaiter, Seats, ThreadSeat, call_seat, earlier_by, earlier_in, member_or, seat_before, subtask_before, thread_seat, waiter_or, work_seat}
 use Rattle.std.specs.Ordering.{is_lt, nat_cmp}
 use Rattle.std.specs.Prelude.{◌&&◌, ◌==◌, is_some, option_and_then, unwrap_or}
 use Rattle.std.proofs.Common.{arith}
@@ -68,9 +69,23 @@ module _ (a : CoreParts) (sound : IsSoundCore a) where
   unfolding seen IsSoundCore
   thread_seated r q at = ap (λ o. unwrap_or o (record { task = 0; own = 0 })) (seat_read (λ (g : GuestThread). g.number) (λ (g : GuestThread). g.thread) in_turn a.threads a.made.threads sound.tables.threads r q at)
 
-  -- two threads that are there are ordered by their places
-  pub ordered_there : (r s : ℕ) (q p : Placed (Single GuestThread)) → place_at a.threads r ≡ Some q → place_at a.threads s ≡ Some p → thread_before seats q.entry.item.number p.entry.item.number ≡ is_lt (thread_order q.entry.item p.entry.item)
-  ordered_there r s q p at_q at_p = ap₂ seat_before (thread_seated r q at_q) (thread_seated s p at_p)
+  came_there : (r : ℕ) (q : Placed (Single GuestThread)) → place_at a.threads r ≡ Some q → came_of q.entry.item.number (seen a).core ≡ q.entry.item.thread.came
+  unfolding seen IsSoundCore
+  came_there r q at = ap (λ o. option_map_or (λ (t : Thread). t.came) o 0)
+      (seat_read (λ (g : GuestThread). g.number) (λ (g : GuestThread). g.thread) (λ (g : GuestThread). g.thread) a.threads a.made.threads sound.tables.threads r q at)
+
+  -- what comes first of two threads
+  abbrev comes : ℕ → ℕ → Bool
+  comes = earlier_in (seen a).core seats
+
+  -- two threads that are there are ordered by their places, in version 2 by when they came
+  pub ordered_there : (r s : ℕ) (q p : Placed (Single GuestThread)) → place_at a.threads r ≡ Some q → place_at a.threads s ≡ Some p → comes q.entry.item.number p.entry.item.number ≡ is_lt (thread_order a.version q.entry.item p.entry.item)
+  unfolding seen
+  ordered_there r s q p at_q at_p = by a.version
+    where
+      by : (v : Version) → earlier_by v (λ k. came_of k (seen a).core) seats q.entry.item.number p.entry.item.number ≡ is_lt (thread_order v q.entry.item p.entry.item)
+      by version.One = ap₂ seat_before (thread_seated r q at_q) (thread_seated s p at_p)
+      by version.Two = ap₂ (λ (m n : ℕ). is_lt (nat_cmp m n)) (came_there r q at_q) (came_there s p at_p)
 
   pub waiter_live : (x n : ℕ) → is_waiter x n (seen a).core ≡ true → 0 < n
   unfolding seen IsSoundCore
@@ -90,24 +105,24 @@ module _ (a : CoreParts) (sound : IsSoundCore a) where
           let one = found_there (λ (g : GuestThread). g.number) (λ (g : GuestThread). g.thread) a.threads n t is in
           (one.0, (one.1.0, (one.1.1.0, (one.1.1.1.0, ap (λ (d : Thread). is_waiting_on x d.place) one.1.1.1.1 ∙ waits))))
 
-  pub least_first : (x : ℕ) (id : TableId ThreadKey) → 0 < thread_of (seen a) id → IsLeastWaiter a x id → (n : ℕ) → is_waiter x n (seen a).core ≡ true → thread_before seats n (thread_of (seen a) id) ≡ false
+  pub least_first : (x : ℕ) (id : TableId ThreadKey) → 0 < thread_of (seen a) id → IsLeastWaiter a x id → (n : ℕ) → is_waiter x n (seen a).core ≡ true → comes n (thread_of (seen a) id) ≡ false
   least_first x id live least n waits =
       let one = waiter_there x n waits in
       let q = one.1.0 in
       let two = named_there (λ (g : GuestThread). g.number) (λ (g : GuestThread). g.thread) a.threads id.rep id.serial (subst (λ m. 0 < m) (thread_shown a id) live) in
       let p = two.0 in
-      ap₂ (thread_before seats) (sym one.1.1.1.0) (thread_shown a id ∙ sym two.1.1.1)
+      ap₂ comes (sym one.1.1.1.0) (thread_shown a id ∙ sym two.1.1.1)
       ∙ (ordered_there one.0 id.rep q p one.1.1.0 two.1.0
       ∙ least p.entry.item two.1.1.0 one.0 q one.1.1.0 one.1.1.1.1)
 
   abbrev told : ℕ → ℕ → Option (TableId ThreadKey) → Bool
-  told n w o = waiter_or (option_map (λ v. thread_of (seen a) v) o) n w (thread_before seats n w)
+  told n w o = waiter_or (option_map (λ v. thread_of (seen a) v) o) n w (comes n w)
 
   pub wanted_first : (x : ℕ) (id : TableId ThreadKey) → a.wanted.waiter ≡ Some id → IsFirstWaiter (preference (seen a)) x (seen a).core (thread_of (seen a) id)
   unfolding seen
   wanted_first x id is n waits =
       let w = thread_of (seen a) id in
-      ap (told n w) is ∙ ap (λ b. cond b false (cond (w == n) true (thread_before seats n w))) (eq-eqb w w refl)
+      ap (told n w) is ∙ ap (λ b. cond b false (cond (w == n) true (comes n w))) (eq-eqb w w refl)
 
   pub unwanted_first : (x : ℕ) (id : TableId ThreadKey) → IsWantedWaiter a x None → is_waiter x (thread_of (seen a) id) (seen a).core ≡ true → 0 < thread_of (seen a) id → IsLeastWaiter a x id → IsFirstWaiter (preference (seen a)) x (seen a).core (thread_of (seen a) id)
   unfolding seen
@@ -124,8 +139,8 @@ module _ (a : CoreParts) (sound : IsSoundCore a) where
       by (Some v) at off =
           let m = thread_of (seen a) v in
           ap (told n w) at
-          ∙ (ap (λ b. cond b false (cond (m == n) true (thread_before seats n w))) (apart m w off is)
-          ∙ (ap (λ b. cond b true (thread_before seats n w)) (apart m n off waits)
+          ∙ (ap (λ b. cond b false (cond (m == n) true (comes n w))) (apart m w off is)
+          ∙ (ap (λ b. cond b true (comes n w)) (apart m n off waits)
           ∙ least_first x id live least n waits))
 
   -- ---- Ready members

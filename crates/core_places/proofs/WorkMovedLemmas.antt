@@ -20,10 +20,10 @@ module _ (p : CoreImage) (whole : IsWhole p) (works : Table (Single WorkRecord))
   at_heard rep (SetOf x) at = (at.0, stands_alike uncounted sets p.sets sets_alike (λ (x : WaitSet). x.number) (λ x. refl) (λ (x : WaitSet). x.set) (λ s. s) (λ x. refl) rep x at.1)
 
   home_heard : (g : GuestThread) → HasHome p g → HasHome heard g
-  home_heard g h = record { call = h.call; there = h.there; instance = h.instance; barred = h.barred; within = h.within; place = at_heard g.state_target _ h.place; op_progress = at_heard g.op_target _ h.op_progress }
+  home_heard g h = record { call = h.call; there = h.there; instance = h.instance; barred = h.barred; waits = h.waits; within = h.within; place = at_heard g.state_target _ h.place; op_progress = at_heard g.op_target _ h.op_progress }
 
   call_heard : (g : GuestTask) → IsCallNamed p g → IsCallNamed heard g
-  call_heard g h = record { caller = at_heard g.maker _ h.caller; first = at_heard g.first (ThreadOf g.number) h.first; join = at_heard g.joined _ h.join; group = h.group; positive = h.positive }
+  call_heard g h = record { caller = at_heard g.maker _ h.caller; first = at_heard g.first (ThreadOf g.number) h.first; join = at_heard g.joined _ h.join; group = h.group; positive = h.positive; waits = h.waits }
 
   work_heard : (w : WorkRecord) → IsWorkNamed p w → IsWorkNamed heard (still_work w)
   work_heard w h = record { caller = at_heard w.maker _ h.caller; join = tt; group = h.group }
@@ -59,6 +59,7 @@ module _ (p : CoreImage) (whole : IsWhole p) (works : Table (Single WorkRecord))
   chained_heard : IsIndex (ready_work_chain p) ready (filings ready_work works) → IsIndex (live_chain p) polled (filings live_work works) → Rises polled p.live → AreChained heard
   chained_heard index live_index rises = record {
     places = IsIndex-same_chains (place_chain p) p.places _ whole.chained.places (place_chain heard) place_chain_heard;
+    waits = whole.chained.waits;
     ready_calls = IsIndex-same_chains (ready_call_chain p) p.ready_calls _ whole.chained.ready_calls (ready_call_chain heard) ready_calls_heard;
     ready_works = IsIndex-same_chains (ready_work_chain p) ready (filings ready_work works) index (ready_work_chain heard) ready_works_heard;
     polled = live_index;

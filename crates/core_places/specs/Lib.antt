@@ -1,3 +1,4 @@
 pub mod Moved
 pub mod Picks
 pub mod Puts
+pub mod Waits

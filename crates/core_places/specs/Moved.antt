@@ -41,9 +41,9 @@ use Rattle.task_table.specs.declared.id.TableId.{TableId}
 use Rattle.task_wait.specs.declared.keys.ThreadKey.{ThreadKey}
 
 abbrev pub still : Thread → Thread
-still t = record t { place = place.New; op_progress = op_progress.Fresh }
+still t = record t { place = place.New; op_progress = op_progress.Fresh; came = 0 }
 
--- a thread without where it is and how far it has come
+-- a thread without where it is, since when, and how far it has come
 abbrev pub still_thread : GuestThread → GuestThread
 still_thread g = record g { thread = still g.thread; state_target = 0; op_target = 0 }
 

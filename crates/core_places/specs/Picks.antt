@@ -1,11 +1,14 @@
--- What is picked where the machine leaves a choice: the least by the places in the resource table.
+-- What is picked where the machine leaves a choice: the least by the places in the resource table, in version 2 the thread that came first.
 use Rattle.std.specs.Ordering.{is_lt, nat_cmp, ordering_then}
 use Rattle.std.specs.Prelude.{◌≡◌, ℕ, false, IfSome, None, Option, true, Ok, Some}
 use Rattle.std.specs.declared.cmp.Ordering.{Ordering}
 use Rattle.machine_data.specs.Read.{is_ready_member, is_waiter, is_waiting_on}
 use Rattle.core_records.specs.Kinds.{item_of}
-use Rattle.core_records.specs.RecordPlaces.{ready_in}
+use Rattle.core_records.specs.RecordPlaces.{ready_in, waits_in}
 use Rattle.core_records.specs.Seen.{seen}
+use Rattle.machine_data.specs.declared.scenario.Version.TheVariants as version
+use Rattle.machine_data.specs.declared.scenario.Version.{Version}
+use Rattle.machine_rules.specs.Cancels.{is_waiting_of}
 use Rattle.core_records.specs.Sound.{EachEntry}
 use Rattle.core_primitives.specs.Names.{subtask_in}
 use Rattle.core_primitives.specs.StateView.{thread_of}
@@ -19,21 +22,34 @@ use Rattle.task_wait.specs.declared.keys.ThreadKey.{ThreadKey}
 use Rattle.core_primitives.specs.declared.names.SubtaskId.{SubtaskId}
 use Rattle.core_primitives.specs.declared.names.SubtaskId.TheVariants as subtask
 
--- threads by the place of their task, then by their own
-abbrev pub thread_order : GuestThread → GuestThread → Ordering
-thread_order g h = ordering_then (nat_cmp g.task_entry h.task_entry) (nat_cmp g.entry h.entry)
+-- threads by the place of their task, then by their own; in version 2 by when they came
+abbrev pub thread_order : Version → GuestThread → GuestThread → Ordering
+thread_order version.One g h = ordering_then (nat_cmp g.task_entry h.task_entry) (nat_cmp g.entry h.entry)
+thread_order version.Two g h = nat_cmp g.thread.came h.thread.came
 
 -- No thread that waits on the set comes before the one of this id.
 abbrev pub IsLeastWaiter : CoreParts → ℕ → TableId ThreadKey → Type 0
 IsLeastWaiter a x id =
     (g : GuestThread) →
     Ok g ≡ item_at item_of a.threads id.rep id.serial →
-    EachEntry (λ h. is_waiting_on x h.thread.place ≡ true → is_lt (thread_order h g) ≡ false) a.threads
+    EachEntry (λ h. is_waiting_on x h.thread.place ≡ true → is_lt (thread_order a.version h g) ≡ false) a.threads
 
 -- The wanted waiter, which waits on the set, or there is none.
 abbrev pub IsWantedWaiter : CoreParts → ℕ → Option (TableId ThreadKey) → Type 0
 IsWantedWaiter a x None = IfSome a.wanted.waiter (λ id. is_waiter x (thread_of (seen a) id) (seen a).core ≡ false)
 IsWantedWaiter a x (Some id) = (a.wanted.waiter ≡ Some id) × (is_waiter x (thread_of (seen a) id) (seen a).core ≡ true)
+
+-- No waiting thread of the call has a lesser place than the one of this id.
+abbrev pub IsLeastWaiting : CoreParts → ℕ → TableId ThreadKey → Type 0
+IsLeastWaiting a k id =
+    (g : GuestThread) →
+    Ok g ≡ item_at item_of a.threads id.rep id.serial →
+    EachEntry (λ h. waits_in h.thread.place h.thread.call ≡ Some k → is_lt (nat_cmp h.entry g.entry) ≡ false) a.threads
+
+-- The wanted thread, which is of the call and waits, or there is none.
+abbrev pub IsWantedWaiting : CoreParts → ℕ → Option (TableId ThreadKey) → Type 0
+IsWantedWaiting a k None = IfSome a.wanted.waiter (λ id. is_waiting_of k (seen a).core (thread_of (seen a) id) ≡ false)
+IsWantedWaiting a k (Some id) = (a.wanted.waiter ≡ Some id) × (is_waiting_of k (seen a).core (thread_of (seen a) id) ≡ true)
 
 -- The wanted member, which is ready in the set, or there is none.
 abbrev pub IsWantedMember : CoreParts → ℕ → Option SubtaskId → Type 0

@@ -13,6 +13,7 @@ mod stages;
 mod step_states;
 mod targets;
 mod unders;
+mod waits;
 
 pub use event_states::set_event;
 pub use join_states::set_join;

@@ -15,10 +15,11 @@ ghost use Rattle.task_table.specs.TableAnswers.{item_at};
 ghost use Rattle.core_primitives.specs.StateView.{thread_of};
 
 use crate::entry_states::{entry_set, no_set, recount};
+use crate::waits::{refile_wait, wait_filing};
 use core_fields::set_register;
 use core_primitives::ThreadId;
 use core_records::{CoreParts, GuestThread, Node, Single};
-use machine_data::{Delivery, OpProgress, Place, Script, Why};
+use machine_data::{Delivery, OpProgress, Place, Script, Version, Why};
 use table_lists::{OrderKey, OrderedLists};
 use table_records::RecordTable;
 
@@ -44,15 +45,22 @@ pub(crate) fn refresh_key(
     }
 }
 
-// The order key of a thread.
+// The order key of a thread: in version 1 by places, in version 2 by when it began to wait or to be held.
 #[inline(always)]
-fn thread_order_key(place: u32, thread: &GuestThread) -> OrderKey
-    ensures { result ≡ thread_order_key place thread.now }
+pub(crate) fn thread_order_key(version: Version, place: u32, thread: &GuestThread) -> OrderKey
+    ensures { result ≡ thread_order_key version place thread.now }
 {
-    OrderKey {
-        task: thread.task_entry,
-        thread: thread.entry,
-        place,
+    match version {
+        Version::One => OrderKey {
+            task: u64::from(thread.task_entry),
+            thread: thread.entry,
+            place,
+        },
+        Version::Two => OrderKey {
+            task: thread.thread.came,
+            thread: 0,
+            place,
+        },
     }
 }
 
@@ -61,7 +69,7 @@ pub(crate) fn member_order_key(entry: u32, place: u32) -> OrderKey
     ensures { result ≡ member_order_key entry place }
 {
     OrderKey {
-        task: entry,
+        task: u64::from(entry),
         thread: 0,
         place,
     }
@@ -242,7 +250,8 @@ pub(crate) fn put_counted(
     ensures { IsPut parts.old parts.new id place state_target chain }
 {
     if let Some(found) = core_records::thread(parts, id) {
-        let (node, order_key) = (found.node, thread_order_key(id.rep(), found));
+        let (node, order_key) = (found.node, thread_order_key(parts.version, id.rep(), found));
+        let wait = wait_filing(parts, id, found, &place);
         let (op_progress, op_target) = (&found.thread.op_progress, found.op_target);
         let from = entry_set(
             parts,
@@ -255,6 +264,7 @@ pub(crate) fn put_counted(
         write_place(&mut parts.threads, id, place, state_target);
         recount(&mut parts.sets, from, to);
         refresh_key(&mut parts.places, node, chain, order_key);
+        refile_wait(&mut parts.waits, wait);
     }
 }
 
@@ -291,7 +301,8 @@ pub(crate) fn put_alone(
     ensures { IsPut parts.old parts.new id place state_target chain }
 {
     if let Some(found) = core_records::thread(parts, id) {
-        let (node, order_key) = (found.node, thread_order_key(id.rep(), found));
+        let (node, order_key) = (found.node, thread_order_key(parts.version, id.rep(), found));
+        let wait = wait_filing(parts, id, found, &place);
         let from = no_set(parts);
         let to = entry_set(
             parts,
@@ -303,6 +314,7 @@ pub(crate) fn put_alone(
         write_place(&mut parts.threads, id, place, state_target);
         recount(&mut parts.sets, from, to);
         file_in(&mut parts.places, node, chain, order_key);
+        refile_wait(&mut parts.waits, wait);
     }
 }
 
@@ -394,7 +406,8 @@ pub(crate) fn put_stand_counted(
     ensures { BecomesBy parts.old parts.new (on_thread (thread_of (seen parts.old) id) (to_stand place op_progress)) }
 {
     if let Some(found) = core_records::thread(parts, id) {
-        let (node, order_key) = (found.node, thread_order_key(id.rep(), found));
+        let (node, order_key) = (found.node, thread_order_key(parts.version, id.rep(), found));
+        let wait = wait_filing(parts, id, found, &place);
         let from = entry_set(
             parts,
             &found.thread.place,
@@ -413,6 +426,7 @@ pub(crate) fn put_stand_counted(
         );
         recount(&mut parts.sets, from, to);
         refresh_key(&mut parts.places, node, chain, order_key);
+        refile_wait(&mut parts.waits, wait);
     }
 }
 
@@ -464,7 +478,8 @@ pub(crate) fn put_stand(
 {
     if let Some(found) = core_records::thread(parts, id) {
         if stands_alone(&found.thread.place) {
-            let (node, order_key) = (found.node, thread_order_key(id.rep(), found));
+            let (node, order_key) = (found.node, thread_order_key(parts.version, id.rep(), found));
+            let wait = wait_filing(parts, id, found, &place);
             let from = no_set(parts);
             let to = entry_set(parts, &place, state_target, &op_progress, op_target);
             write_stand(
@@ -477,6 +492,7 @@ pub(crate) fn put_stand(
             );
             recount(&mut parts.sets, from, to);
             file_in(&mut parts.places, node, chain, order_key);
+            refile_wait(&mut parts.waits, wait);
         } else {
             put_stand_away(
                 parts,
@@ -568,7 +584,8 @@ fn put_begun_counted(parts: &mut CoreParts, id: ThreadId, words: (u64, u64, u64)
     ensures { BecomesBy parts.old parts.new (on_thread (thread_of (seen parts.old) id) (to_begun words.0 words.1 words.2)) }
 {
     if let Some(found) = core_records::thread(parts, id) {
-        let (node, order_key) = (found.node, thread_order_key(id.rep(), found));
+        let (node, order_key) = (found.node, thread_order_key(parts.version, id.rep(), found));
+        let wait = wait_filing(parts, id, found, &Place::Running);
         let (op_progress, op_target) = (&found.thread.op_progress, found.op_target);
         let from = entry_set(
             parts,
@@ -581,6 +598,7 @@ fn put_begun_counted(parts: &mut CoreParts, id: ThreadId, words: (u64, u64, u64)
         write_begun(&mut parts.threads, id, words);
         recount(&mut parts.sets, from, to);
         refresh_key(&mut parts.places, node, None, order_key);
+        refile_wait(&mut parts.waits, wait);
     }
 }
 
@@ -592,7 +610,7 @@ pub(crate) fn put_begun(parts: &mut CoreParts, id: ThreadId, words: (u64, u64, u
 {
     if let Some(found) = core_records::thread(parts, id) {
         if stands_alone(&found.thread.place) {
-            let (node, order_key) = (found.node, thread_order_key(id.rep(), found));
+            let (node, order_key) = (found.node, thread_order_key(parts.version, id.rep(), found));
             let from = no_set(parts);
             let to = no_set(parts);
             write_begun(&mut parts.threads, id, words);

@@ -1,5 +1,6 @@
 -- What the primitives that write make of a state; each id is read as what it names.
-use Rattle.std.specs.Prelude.{◌≡◌, ◌++◌, ◌∷◌, [], IsPermutation, List, Some, true, ℕ}
+use Rattle.std.specs.List.{list_any}
+use Rattle.std.specs.Prelude.{◌≡◌, ◌++◌, ◌∷◌, [], IsPermutation, List, Some, false, true, ℕ}
 use Rattle.task_table.specs.declared.id.TableId.{TableId}
 use Rattle.task_wait.specs.declared.keys.GuestTaskKey.{GuestTaskKey}
 use Rattle.task_wait.specs.declared.keys.HostTaskKey.{HostTaskKey}
@@ -14,7 +15,9 @@ use Rattle.machine_data.specs.declared.records.OpProgress.TheVariants as op_prog
 use Rattle.machine_data.specs.declared.records.Place.TheVariants as place
 use Rattle.machine_data.specs.declared.records.Subtask.TheVariants as subtask
 use Rattle.machine_rules.specs.Calls.{with_thread_handle}
-use Rattle.machine_rules.specs.Picks.{goes_in_order, IsFirstMember, IsFirstWaiter, WakesFirst}
+use Rattle.machine_rules.specs.Cancels.{cancellable}
+use Rattle.machine_rules.specs.Step.{is_among}
+use Rattle.machine_rules.specs.Picks.{cancel_before, goes_in_order, IsFirstMember, IsFirstWaiter, WakesFirst}
 use Rattle.machine_rules.specs.Works.{poll_of, poll_pends}
 use Rattle.core_primitives.specs.Names.{join_in, op_progress_in, place_in, subtask_in}
 use Rattle.core_primitives.specs.Polls.{PendsWith}
@@ -85,6 +88,15 @@ ReleasesHeld i s t = (order : List ℕ) × (IsPermutation (admitted_held i s.cor
 -- No waiter of the set comes before this one.
 abbrev pub ComesFirst : TableId SetKey → TableId ThreadKey → StateView → Type 0
 ComesFirst set id s = IsFirstWaiter (preference s) (set_of s set) s.core (thread_of s id)
+
+-- A cancel of the call may take the thread.
+abbrev pub IsCancellable : TableId GuestTaskKey → TableId ThreadKey → StateView → Type 0
+IsCancellable call id s = is_among (thread_of s id) (cancellable (call_of s call) s.core) ≡ true
+
+-- No thread that a cancel of the call may take comes before this one.
+abbrev pub IsFirstToCancel : TableId GuestTaskKey → TableId ThreadKey → StateView → Type 0
+IsFirstToCancel call id s =
+    list_any (λ n. cancel_before (preference s) n (thread_of s id)) (cancellable (call_of s call) s.core) ≡ false
 
 -- It waits on a set, and no waiter of that comes before it.
 abbrev pub IsFirstToWake : TableId ThreadKey → StateView → Type 0

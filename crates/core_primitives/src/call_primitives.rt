@@ -2,8 +2,8 @@ ghost use Rattle.std.specs.Prelude.{◌≡◌, ◌+◌, ◌<◌, ◌≤◌, ◌^
 ghost use Rattle.std.specs.Option.{option_map_or};
 ghost use Rattle.machine_data.specs.Maps.{get};
 ghost use Rattle.machine_data.specs.Moves.{is_deletable, is_finished};
-ghost use Rattle.machine_data.specs.Read.{at_handle_limit, callee_of, cancel_was_delivered, end_of, fits, goal_of, has_thread, kind_of, task_event_of, result_of, was_started};
-ghost use Rattle.machine_data.specs.Write.{set_cancel_delivered, set_end, set_exited, set_task_event, set_result, set_started, set_starting_published, set_uninteresting};
+ghost use Rattle.machine_data.specs.Read.{at_handle_limit, callee_of, cancel_was_asked, cancel_was_delivered, end_of, fits, goal_of, has_thread, kind_of, task_event_of, result_of, was_started};
+ghost use Rattle.machine_data.specs.Write.{set_cancel_asked, set_cancel_delivered, set_end, set_exited, set_task_event, set_result, set_started, set_starting_published, set_uninteresting};
 ghost use Rattle.machine_data.specs.declared.records.Caller.TheVariants as callers;
 ghost use Rattle.machine_rules.specs.Takes.{starting_is_published};
 ghost use Rattle.core_primitives.specs.Live.{live_thread, live_caller_of};
@@ -63,7 +63,11 @@ pub trait CallPrimitives: View {
     fn task_event(&self, call: CallId) -> Option<TaskEvent>
         ensures { result ≡ task_event_of (call_of (Self.view self.now) call) (Self.view self.now).core };
 
-    /// Returns whether the task was asked to cancel.
+    /// Returns whether a cancel was asked of the call.
+    fn cancel_was_asked(&self, call: CallId) -> bool
+        ensures { result ≡ cancel_was_asked (call_of (Self.view self.now) call) (Self.view self.now).core };
+
+    /// Returns whether a cancel request was delivered to the task.
     fn cancel_was_delivered(&self, call: CallId) -> bool
         ensures { result ≡ cancel_was_delivered (call_of (Self.view self.now) call) (Self.view self.now).core };
 
@@ -108,6 +112,10 @@ pub trait CallPrimitives: View {
     /// Records that the task event is this one, or none.
     fn set_task_event(&mut self, call: CallId, event: Option<TaskEvent>)
         ensures { Self.view self.new ≡ on_core (set_task_event (call_of (Self.view self.old) call) event) (Self.view self.old) };
+
+    /// Records that a cancel was asked of the call.
+    fn set_cancel_asked(&mut self, call: CallId)
+        ensures { Self.view self.new ≡ on_core (set_cancel_asked (call_of (Self.view self.old) call)) (Self.view self.old) };
 
     /// Records that a cancel request was delivered to the task.
     fn set_cancel_delivered(&mut self, call: CallId)

@@ -1,16 +1,17 @@
-ghost use Rattle.std.specs.Prelude.{◌≡◌, ◌<◌, IfNone, IfSome, false, not, true};
+ghost use Rattle.std.specs.Prelude.{◌≡◌, ◌<◌, [], IfNone, IfSome, false, not, true};
 ghost use Rattle.machine_data.specs.Maps.{size};
 ghost use Rattle.machine_data.specs.Moves.{why_of};
 ghost use Rattle.machine_data.specs.Read.{admitted_held, blocked_on, has_waiter, is_nil, is_waiter, place_of, under_of};
-ghost use Rattle.machine_data.specs.Write.{set_place};
+ghost use Rattle.machine_data.specs.Write.{arrive, set_place};
 ghost use Rattle.machine_data.specs.declared.records.Place.TheVariants as place_of_thread;
+ghost use Rattle.machine_rules.specs.Cancels.{cancellable};
 ghost use Rattle.machine_rules.specs.Places.{Placed};
 ghost use Rattle.machine_rules.specs.Works.{first_number};
 ghost use Rattle.core_primitives.specs.Apart.{IsBehindNobody, later_of, newest_of, older_of};
 ghost use Rattle.core_primitives.specs.Live.{live_delivered_set};
 ghost use Rattle.core_primitives.specs.Names.{number_in, subtask_in};
 ghost use Rattle.core_primitives.specs.StateView.{call_of, on_core, set_of, thread_of, thread_if_any, set_if_any};
-ghost use Rattle.core_primitives.specs.Changes.{ComesFirst, ReleasesHeld, with_place, standing_at, standing_under, with_mark, with_held, with_caller, with_callers, callers_at};
+ghost use Rattle.core_primitives.specs.Changes.{ComesFirst, IsCancellable, IsFirstToCancel, ReleasesHeld, with_place, standing_at, standing_under, with_mark, with_held, with_caller, with_callers, callers_at};
 
 use crate::names::{CallId, OpProgressId, PlaceId, SetId, SubtaskId, ThreadId};
 use crate::view::View;
@@ -29,6 +30,11 @@ pub trait PlacePrimitives: View {
     /// Returns the set that the thread's queued delivery is for.
     fn delivered_set(&self, thread: ThreadId) -> Option<SetId>
         ensures { set_if_any (Self.view self.now) result ≡ live_delivered_set (thread_of (Self.view self.now) thread) (Self.view self.now).core };
+
+    /// Makes the thread, which is about to wait or to be held, the last of all that wait or are held: in version 2 these come first
+    /// as they came.
+    fn arrive(&mut self, thread: ThreadId)
+        ensures { Self.view self.new ≡ on_core (arrive (thread_of (Self.view self.old) thread)) (Self.view self.old) };
 
     /// Moves the thread to this place; its entry at a mark, if the place has one, is queued by another call.
     fn set_place(&mut self, thread: ThreadId, place: PlaceId)
@@ -73,13 +79,22 @@ pub trait PlacePrimitives: View {
         ensures is { thread_if_any (Self.view self.now) result ≡ blocked_on (subtask_in (Self.view self.now).tags subtask) (Self.view self.now).core }
         ensures live { IfSome result (λ id. 0 < thread_of (Self.view self.now) id) };
 
-    /// Returns the waiter of a set that comes first: the one that is wanted, else the least by place.
+    /// Returns the waiter of a set that comes first: the one that is wanted, else in version 1 the least by place, in version 2
+    /// the one that came first.
     fn first_waiter(&self, set: SetId) -> Option<ThreadId>
         requires { 0 < set_of (Self.view self.now) set }
         ensures none { IfNone result (has_waiter (set_of (Self.view self.now) set) (Self.view self.now).core ≡ false) }
         ensures some { IfSome result (λ id. is_waiter (set_of (Self.view self.now) set) (thread_of (Self.view self.now) id) (Self.view self.now).core ≡ true) }
         ensures live { IfSome result (λ id. 0 < thread_of (Self.view self.now) id) }
         ensures first { IfSome result (λ id. ComesFirst set id (Self.view self.now)) };
+
+    /// Returns the thread of a call that waits so that a cancel takes it: the one that is wanted, else the least by place.
+    fn first_cancellable(&self, call: CallId) -> Option<ThreadId>
+        requires { 0 < call_of (Self.view self.now) call }
+        ensures none { IfNone result (cancellable (call_of (Self.view self.now) call) (Self.view self.now).core ≡ []) }
+        ensures some { IfSome result (λ id. IsCancellable call id (Self.view self.now)) }
+        ensures live { IfSome result (λ id. 0 < thread_of (Self.view self.now) id) }
+        ensures first { IfSome result (λ id. IsFirstToCancel call id (Self.view self.now)) };
 
     /// Returns whether some thread is behind this one.
     fn has_callers(&self, thread: ThreadId) -> bool
@@ -110,7 +125,8 @@ pub trait PlacePrimitives: View {
     fn has_admitted(&self, instance: u32) -> bool
         ensures { result ≡ not (is_nil (admitted_held instance (Self.view self.now).core)) };
 
-    /// Puts the held threads of the instance that are admitted at high: in the order that is wanted, the others by place.
+    /// Puts the held threads of the instance that are admitted at high: in the order that is wanted, the others in version 1 by
+    /// place, in version 2 as they came.
     fn release(&mut self, instance: u32)
         requires { Placed (Self.view self.old).core }
         ensures { ReleasesHeld instance (Self.view self.old) (Self.view self.new) };

@@ -14,6 +14,7 @@ use crate::set_primitives::SetPrimitives;
 use crate::subtask_primitives::SubtaskPrimitives;
 use crate::thread_primitives::ThreadPrimitives;
 use crate::work_primitives::WorkPrimitives;
+use machine_data::Version;
 
 /// A state that contracts see as a core, what each id names, and the thread that runs.
 pub trait View {
@@ -26,6 +27,10 @@ pub trait View {
     /// Makes this thread the one that runs, or lets none run.
     fn set_current(&mut self, thread: Option<ThreadId>)
         ensures { view self.new ≡ with_current thread (view self.old) };
+
+    /// Returns by which rules the state runs.
+    fn version(&self) -> Version
+        ensures { result ≡ (view self.now).core.version };
 
     /// Makes this what is picked first where the machine leaves a choice, as long as it can be picked.
     fn want(&mut self, wanted: WantedId)

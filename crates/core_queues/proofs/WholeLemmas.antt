@@ -16,10 +16,10 @@ module _ (p : CoreImage) (whole : IsWhole p) (marks instance_queues : List (Spot
   now = with_chains p marks instance_queues behind switch
 
   home_same : (g : GuestThread) → HasHome p g → HasHome now g
-  home_same g h = record { call = h.call; there = h.there; instance = h.instance; barred = h.barred; within = h.within; place = h.place; op_progress = h.op_progress }
+  home_same g h = record { call = h.call; there = h.there; instance = h.instance; barred = h.barred; waits = h.waits; within = h.within; place = h.place; op_progress = h.op_progress }
 
   call_same : (g : GuestTask) → IsCallNamed p g → IsCallNamed now g
-  call_same g h = record { caller = h.caller; first = h.first; join = h.join; group = h.group; positive = h.positive }
+  call_same g h = record { caller = h.caller; first = h.first; join = h.join; group = h.group; positive = h.positive; waits = h.waits }
 
   work_same : (w : WorkRecord) → IsWorkNamed p w → IsWorkNamed now w
   work_same w h = record { caller = h.caller; join = h.join; group = h.group }
@@ -67,6 +67,7 @@ module _ (p : CoreImage) (whole : IsWhole p) (marks instance_queues : List (Spot
     named = named_same follows;
     chained = record {
       places = whole.chained.places;
+      waits = whole.chained.waits;
       ready_calls = whole.chained.ready_calls;
       ready_works = whole.chained.ready_works;
       polled = whole.chained.polled;

@@ -33,7 +33,7 @@ pub use Rattle.table_lists.proofs.Lists.{Each-less_by, Each-more, filter-append,
 pub use Rattle.table_lists.proofs.Members.{admitted_permute, found_permute, IsMembers-filter, IsMembers-nothing, IsMembers-numbers}
 pub use Rattle.table_lists.proofs.Refilings.{first_link, first_made, free_unlinked, refiled_free, Refiles-changed, Refiles-linked, Refiles-removed, Refiles-twice}
 pub use Rattle.table_lists.proofs.Rows.{free_in_none, IsRows-made, IsRows-opened, IsRows-pushed, IsRows-pushed_first, IsRows-removed, IsRows-renamed, IsRows-same, less_elsewhere, no_chain, values_are}
-pub use Rattle.table_lists.proofs.Tables.{filings-deleted_here, filings-deleted_other, filings_at, held_passes, none_in_records, none_passes}
+pub use Rattle.table_lists.proofs.Tables.{filings-deleted_here, filings-deleted_other, filings-pushed_before, filings-pushed_here, filings-pushed_other, filings_at, held_passes, none_in_records, none_passes}
 pub use Rattle.table_lists.proofs.Walks.{IsMembers-walked}
 pub use Rattle.table_lists.specs.Counts.{one_if_passes, passing}
 pub use Rattle.table_lists.specs.Index.{Filing, Holds, IsIndex, link_for, PassesAt, Refiles, said, Tests}
@@ -63,11 +63,11 @@ pub use Rattle.core_records.specs.Image.{callers_in, chained, core_of, given_res
 pub use Rattle.core_records.specs.Instances.{by_place, handle_table, is_sorted-mapped, named_as, named_of}
 unfoldable pub use Rattle.core_records.specs.Instances.{by_place_from, records_by}
 pub use Rattle.core_records.specs.CachedCounts.{AreKept, calls_of, entries_for, is_of_group, IsCallKept, IsGroupKept, IsSetKept, members_of, threads_of}
-pub use Rattle.core_records.specs.Keys.{blocked_key, call_key, callers_key, group_key, ready_calls_key, ready_works_key, set_key, thread_key, under_key, waiters_key, work_blocked_key, work_key}
+pub use Rattle.core_records.specs.Keys.{blocked_key, call_key, callers_key, group_key, ready_calls_key, ready_works_key, set_key, thread_key, under_key, waiters_key, work_blocked_key, work_key, waits_key}
 pub use Rattle.core_records.specs.Kinds.{entry_of, item_of, no_other, on_item}
 pub use Rattle.core_records.specs.Groups.{AreEnded, is_tracked, tracked_of}
-pub use Rattle.core_records.specs.Names.{AreHandlesNamed, AtPlace, caller_target, CallOf, HasHome, HasNumber, op_progress_target, IsCallNamed, IsHeldNamed, IsNamedAt, IsWorkNamed, join_target, Kinds, kinds, Nothing, OwnsHandle, place_target, SetOf, StandsAt, subtask_target, Target, ThreadOf, why_target, work_caller_target, WorkOf}
-pub use Rattle.core_records.specs.RecordPlaces.{BlockedOn, held_list, HeldIn, live_chain, live_order, live_value, live_work, place_chain, place_filing, ready_call, ready_call_chain, ready_in, ready_work, ready_work_chain, Rises, StartsIn, UnderOf, WaitsOn, Where, where_at}
+pub use Rattle.core_records.specs.Names.{AreHandlesNamed, AtPlace, caller_target, CallOf, HasHome, HasNumber, op_progress_target, IsCallNamed, IsHeldNamed, IsNamedAt, IsWorkNamed, join_target, Kinds, kinds, Nothing, OwnsHandle, place_target, SetOf, StandsAt, subtask_target, Target, ThreadOf, why_target, work_caller_target, WorkOf, keeps_waits}
+pub use Rattle.core_records.specs.RecordPlaces.{BlockedOn, held_list, HeldIn, live_chain, live_order, live_value, live_work, place_chain, place_filing, wait_chain, wait_filing, waits_in, ready_call, ready_call_chain, ready_in, ready_work, ready_work_chain, Rises, StartsIn, UnderOf, WaitsOn, Where, where_at}
 pub use Rattle.core_records.specs.Rows.{callers_chain, callers_row, entry_keyed, follower, HaveNodes, High, host_entry, is_of_instance, IsFollower, IsOfThread, IsKeyed, Low, push_entry, Row, row, row_chain, keyed, instance_queue_chain, instance_queue_in, thread_entry}
 pub use Rattle.core_records.specs.Seen.{nothing, parts_of}
 unfoldable pub use Rattle.core_records.specs.Seen.{IsSoundCore, seen}

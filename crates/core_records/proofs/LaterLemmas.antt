@@ -45,10 +45,10 @@ module _ (p : CoreImage) (n : MadeCounts) (later : IsLater p.made n) (finished :
   at_later = named_later (kinds p) n later
 
   home_later : (g : GuestThread) → HasHome p g → HasHome state_target g
-  home_later g home = record { call = home.call; there = home.there; instance = home.instance; barred = home.barred; within = home.within; place = at_later g.state_target _ home.place; op_progress = at_later g.op_target _ home.op_progress }
+  home_later g home = record { call = home.call; there = home.there; instance = home.instance; barred = home.barred; waits = home.waits; within = home.within; place = at_later g.state_target _ home.place; op_progress = at_later g.op_target _ home.op_progress }
 
   call_later : (g : GuestTask) → IsCallNamed p g → IsCallNamed state_target g
-  call_later g named = record { caller = at_later g.maker _ named.caller; first = at_later g.first (ThreadOf g.number) named.first; join = at_later g.joined _ named.join; group = named.group; positive = named.positive }
+  call_later g named = record { caller = at_later g.maker _ named.caller; first = at_later g.first (ThreadOf g.number) named.first; join = at_later g.joined _ named.join; group = named.group; positive = named.positive; waits = named.waits }
 
   work_later : (w : WorkRecord) → IsWorkNamed p w → IsWorkNamed state_target w
   work_later w named = record { caller = at_later w.maker _ named.caller; join = at_later w.joined _ named.join; group = named.group }
@@ -63,6 +63,7 @@ module _ (p : CoreImage) (n : MadeCounts) (later : IsLater p.made n) (finished :
     };
     chained = record {
       places = whole.chained.places;
+      waits = whole.chained.waits;
       ready_calls = whole.chained.ready_calls;
       ready_works = whole.chained.ready_works;
       polled = whole.chained.polled;

@@ -2,6 +2,7 @@
 use Rattle.core_records.proofs.Core.{[], AreApart-new_table, AreChained, AreCounted, AreNamed, arith, bare, BlockedOn, by_place_from, call_key, empty, false, Filing, filings, found_record, fresh, get-empty, group_key, HaveRowNodes, HeldIn, StartsIn, High, image, IsIndex, IsIndex-nothing, IsIndex-same_chains, IsRows, IsTable, List, live_count, Low, mapped, new_table, None, nothing, nothing_made, numbers, Option, CoreImage, place_chain, records, refl, Row, row_chain, set_key, size, Sound, SoundTable, Subtask, sym, Table, table_use, thread_key, UnderOf, WaitsOn, Where, with_capacity, work_key, ℕ, ◌∙◌, ◌≡◌, ◌≤◌, has, true, ◌+◌, ◌<◌}
 use Rattle.core_records.specs.declared.{single.Single.Single}
 use Rattle.core_primitives.specs.StateView.{nothing_wanted}
+use Rattle.machine_data.specs.declared.scenario.Version.TheVariants as version
 use Rattle.core_records.proofs.KindLemmas.{absent}
 
 abbrev pub no_records : {T : Type 0} → Table (Single T)
@@ -18,6 +19,7 @@ opening end_room = record {
   instances = [];
   counter = record { limit = 100000; live = 0 };
   places = [];
+  waits = [];
   ready_calls = [];
   ready_works = [];
   polled = [];
@@ -37,6 +39,8 @@ opening end_room = record {
   end_room = end_room;
   capacity = 1000000;
   made = nothing_made;
+  version = version.One;
+  arrivals = 0;
   trapped = false;
 }
 
@@ -83,6 +87,7 @@ opening_chained : (room : ℕ) → AreChained (bare (opening room))
 unfolding found_record filings mapped with_capacity
 opening_chained room = record {
   places = no_index _ _ (no_place room) (λ r. refl);
+  waits = no_index _ _ (λ k. refl) (λ r. refl);
   ready_calls = no_index _ _ (λ x. refl) (λ r. refl);
   ready_works = no_index _ _ (λ x. refl) (λ r. refl);
   polled = no_index _ _ (λ k. refl) (λ r. refl);

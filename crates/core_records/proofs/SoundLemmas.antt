@@ -8,6 +8,7 @@ SameRecords a b =
     b ≡ record a {
       alloc = b.alloc;
       places = b.places;
+      waits = b.waits;
       ready_calls = b.ready_calls;
       ready_works = b.ready_works;
       polled = b.polled;
@@ -23,6 +24,8 @@ SameRecords a b =
       results = b.results;
       kept = record a.kept { used = b.kept.used; groups = b.kept.groups; live = b.kept.live };
       capacity = b.capacity;
+      version = b.version;
+      arrivals = b.arrivals;
       trapped = b.trapped;
     }
 

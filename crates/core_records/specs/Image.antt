@@ -11,6 +11,7 @@ use Rattle.table_links.specs.Links.{Spot}
 use Rattle.machine_data.specs.Core.{Core}
 use Rattle.machine_data.specs.Maps.{Records, empty, insert, numbers, remove}
 use Rattle.machine_data.specs.declared.records.MadeCounts.{MadeCounts}
+use Rattle.machine_data.specs.declared.scenario.Version.{Version}
 use Rattle.core_records.specs.Groups.{tracked_of}
 use Rattle.core_records.specs.Instances.{by_place, handle_table, named_of, thread_of}
 use Rattle.core_records.specs.Keys.{call_key, call_seat_key, group_key, set_key, thread_key, thread_seat_key, work_key, work_seat_key}
@@ -43,6 +44,7 @@ pub record CoreImage : Type 0 where
   pub instances : List InstanceRecord
   pub counter : Counter
   pub places : List (Spot OrderKey)
+  pub waits : List (Spot OrderKey)
   pub ready_calls : List (Spot OrderKey)
   pub ready_works : List (Spot OrderKey)
   pub polled : List (Spot LiveWork)
@@ -62,6 +64,8 @@ pub record CoreImage : Type 0 where
   pub end_room : ℕ
   pub capacity : ℕ
   pub made : MadeCounts
+  pub version : Version
+  pub arrivals : ℕ
   pub trapped : Bool
 
 -- the values of a chain, where it was made
@@ -88,6 +92,7 @@ HasRoom k rs = option_map_or (λ r. r.lives) (lookup (is_at (nat_cmp k)) rs) fal
 
 abbrev pub core_of : CoreImage → Core
 core_of p = record {
+  version = p.version;
   calls = records call_key p.calls.places;
   threads = records thread_key p.threads.places;
   callers = records (callers_in p.behind) p.threads.places;
@@ -107,6 +112,7 @@ core_of p = record {
   handle_limit = p.counter.limit;
   capacity = p.capacity;
   made = p.made;
+  arrivals = p.arrivals;
 }
 
 -- what contracts see at a place

@@ -50,6 +50,10 @@ under_key g = Some (g.item.number, g.item.under)
 abbrev pub blocked_key : Single GuestTask → Option (ℕ × ℕ)
 blocked_key g = Some (g.item.number, g.item.blocked)
 
+-- the chain of a call's own threads that wait, where a cancel may take any of these; none otherwise
+abbrev pub waits_key : Single GuestTask → Option (ℕ × Option ℕ)
+waits_key g = Some (g.item.number, g.item.waits)
+
 abbrev pub work_blocked_key : Single WorkRecord → Option (ℕ × ℕ)
 work_blocked_key w = Some (w.item.number, w.item.blocked)
 

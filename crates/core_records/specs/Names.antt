@@ -1,12 +1,14 @@
 -- What the numbers in records name, and where it is.
-use Rattle.std.specs.Prelude.{◌≡◌, ◌<◌, ◌≤◌, ℕ, Option, Some, IsSome, slice_get}
+use Rattle.std.specs.Prelude.{◌≡◌, ◌<◌, ◌≤◌, ◌&&◌, ℕ, Bool, Option, Some, IsSome, is_some, slice_get}
 use Rattle.task_handles.specs.Handles.{held_by}
 use Rattle.task_handles.specs.declared.kinds.HandleKind.{HandleKind}
 use Rattle.task_handles.specs.declared.kinds.HandleKind.TheVariants as handle
 use Rattle.task_handles.specs.declared.kinds.HeldItem.{HeldItem}
 use Rattle.task_handles.specs.declared.kinds.Rep.{Rep}
 use Rattle.task_handles.specs.declared.kinds.WaitableKind.TheVariants as waitable
-use Rattle.machine_data.specs.Read.{call_instance, kind_of, thread_at}
+use Rattle.machine_data.specs.Read.{call_instance, is_async_lifted, is_second, kind_of, thread_at}
+use Rattle.machine_data.specs.declared.component.ExportKind.{ExportKind}
+use Rattle.machine_data.specs.declared.scenario.Version.{Version}
 use Rattle.machine_data.specs.declared.records.Caller.{Caller}
 use Rattle.machine_data.specs.declared.records.Caller.TheVariants as caller
 use Rattle.machine_data.specs.declared.records.Delivery.TheVariants as delivery
@@ -112,6 +114,10 @@ IsNamedAt p rep (SetOf x) = (x ≤ p.made.sets) × StandsAt set_key p.sets rep x
 abbrev pub AtPlace : CoreImage → ℕ → Target → Type 0
 AtPlace p rep t = IsNamedAt (kinds p) rep t
 
+-- Where a `wait` may take Cancelled the waiting threads of a call are kept beside the sets.
+abbrev pub keeps_waits : Version → ExportKind → Bool
+keeps_waits v kind = is_second v && is_async_lifted kind
+
 -- A thread's call is there, in an instance that is there.
 pub record HasHome (p : CoreImage) (g : GuestThread) : Type 0 where
   pub call : HasNumber call_key p.calls g.task g.thread.call
@@ -119,6 +125,7 @@ pub record HasHome (p : CoreImage) (g : GuestThread) : Type 0 where
   pub instance : call_instance g.thread.call (core_of p) ≡ g.instance
   pub barred : bars_start g.thread.explicit (kind_of g.thread.call (core_of p)) ≡ g.barred
   pub within : IsSome (slice_get p.instances g.instance)
+  pub waits : keeps_waits p.version (kind_of g.thread.call (core_of p)) ≡ is_some g.wait
   pub place : AtPlace p g.state_target (place_target g.thread.place)
   pub op_progress : AtPlace p g.op_target (op_progress_target g.thread.op_progress)
 
@@ -133,6 +140,7 @@ pub record IsCallNamed (p : CoreImage) (g : GuestTask) : Type 0 where
   pub join : AtPlace p g.joined (join_target g.call.join)
   pub group : HasNumber group_key p.groups g.group g.call.group
   pub positive : 0 < g.call.group
+  pub waits : keeps_waits p.version g.call.kind ≡ is_some g.waits
 
 -- What a host work names.
 pub record IsWorkNamed (p : CoreImage) (w : WorkRecord) : Type 0 where

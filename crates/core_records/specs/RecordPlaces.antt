@@ -1,7 +1,7 @@
 -- The lists that the machine finds by a test of its records, as indexes: who waits on a set, is held in an instance, is under a thread or
 -- blocked on a subtask; the ready members of a set; the live works.
 use Rattle.std.specs.Ordering.{nat_cmp, ordering_then}
-use Rattle.std.specs.Prelude.{ℕ, Bool, ◌&&◌, List, Option, Some, None, slice_get, option_map, if◌then◌else◌}
+use Rattle.std.specs.Prelude.{ℕ, Bool, ◌&&◌, List, Option, Some, None, slice_get, option_and_then, option_map, if◌then◌else◌}
 use Rattle.std.specs.declared.cmp.Ordering.{Ordering}
 use Rattle.table_lists.specs.declared.ordered_lists.OrderKey.{OrderKey}
 use Rattle.table_lists.specs.Index.{Filing}
@@ -14,9 +14,11 @@ use Rattle.machine_data.specs.declared.records.Place.TheVariants as place
 use Rattle.machine_data.specs.declared.records.Subtask.{Subtask}
 use Rattle.machine_data.specs.declared.records.Subtask.TheVariants as subtask
 use Rattle.machine_data.specs.declared.records.Why.{Why}
+use Rattle.machine_data.specs.declared.scenario.Version.TheVariants as version
+use Rattle.machine_data.specs.declared.scenario.Version.{Version}
 use Rattle.machine_data.specs.declared.statuses.Status.{Status}
 use Rattle.core_records.specs.Image.{CoreImage}
-use Rattle.core_records.specs.Keys.{blocked_key, ready_calls_key, ready_works_key, under_key, waiters_key, work_blocked_key}
+use Rattle.core_records.specs.Keys.{blocked_key, ready_calls_key, ready_works_key, under_key, waiters_key, waits_key, work_blocked_key}
 use Rattle.core_records.specs.declared.call_records.GuestTask.{GuestTask}
 use Rattle.core_records.specs.declared.single.Single.{Single}
 use Rattle.core_records.specs.declared.thread_records.GuestThread.{GuestThread}
@@ -46,20 +48,48 @@ where_at i barred (place.Under n) = Some (UnderOf n)
 where_at i barred (place.Blocked sub) = Some (BlockedOn sub)
 where_at i barred _ = None
 
--- the order keys of a thread, and of a call or a host work, by their places in the resource table and in the table of their kind
-abbrev pub thread_order_key : ℕ → GuestThread → OrderKey
-thread_order_key rep g = record { task = g.task_entry; thread = g.entry; place = rep }
+-- what threads are ordered by: in version 1 the places of the call and of the thread in the resource table, in version 2 when the thread
+-- began to wait or to be held
+abbrev pub order_task : Version → (task came : ℕ) → ℕ
+order_task version.One task came = task
+order_task version.Two task came = came
 
+abbrev pub order_entry : Version → ℕ → ℕ
+order_entry version.One entry = entry
+order_entry version.Two entry = 0
+
+-- the order key of a thread: by that, and then by its place in the table of its kind
+abbrev pub thread_order_key : Version → ℕ → GuestThread → OrderKey
+thread_order_key v rep g = record { task = order_task v g.task_entry g.thread.came; thread = order_entry v g.entry; place = rep }
+
+-- that of a call or a host work, or of a thread beside others of its call: by their places in the resource table
 abbrev pub member_order_key : ℕ → ℕ → OrderKey
 member_order_key entry rep = record { task = entry; thread = 0; place = rep }
 
-abbrev pub place_filing : ℕ → ℕ → Single GuestThread → Option (Filing Where OrderKey)
-place_filing rep serial g =
+abbrev pub place_filing : Version → ℕ → ℕ → Single GuestThread → Option (Filing Where OrderKey)
+place_filing v rep serial g =
     Some (record {
       node = g.item.node.index;
       key = where_at g.item.instance g.item.barred g.item.thread.place;
-      value = thread_order_key rep g.item;
+      value = thread_order_key v rep g.item;
     })
+
+-- the call among whose waiting threads one of it is, if it is at this place
+abbrev pub waits_in : Place → ℕ → Option ℕ
+waits_in (place.Waiting x by_callback) k = Some k
+waits_in _ k = None
+
+-- only a thread that has a node for that is filed by its call
+abbrev pub wait_filing : ℕ → ℕ → Single GuestThread → Option (Filing ℕ OrderKey)
+wait_filing rep serial g =
+    option_map (λ node. record {
+      node = node.index;
+      key = waits_in g.item.thread.place g.item.thread.call;
+      value = member_order_key g.item.entry rep;
+    }) g.item.wait
+
+abbrev pub wait_chain : CoreImage → ℕ → Option ℕ
+wait_chain p k = option_and_then (λ c. c) (found_record waits_key k p.calls.places)
 
 abbrev pub place_chain : CoreImage → Where → Option ℕ
 place_chain p (WaitsOn x) = found_record waiters_key x p.sets.places

@@ -1,6 +1,7 @@
 -- What contracts see of the parts of a core.
 use Rattle.std.specs.Prelude.{None, [], vec_capacity}
 use Rattle.machine_data.specs.Core.{fresh}
+use Rattle.machine_data.specs.declared.scenario.Version.TheVariants as version
 use Rattle.core_records.specs.Image.{CoreImage, image}
 use Rattle.core_records.specs.Sound.{Sound}
 use Rattle.core_records.specs.declared.parts.CoreParts.{CoreParts}
@@ -19,6 +20,7 @@ parts_of a = record {
   instances = a.instances.items;
   counter = a.counter;
   places = a.places;
+  waits = a.waits;
   ready_calls = a.ready_calls;
   ready_works = a.ready_works;
   polled = a.polled;
@@ -38,6 +40,8 @@ parts_of a = record {
   end_room = vec_capacity a.ended;
   capacity = a.capacity;
   made = a.made;
+  version = a.version;
+  arrivals = a.arrivals;
   trapped = a.trapped;
 }
 
@@ -52,4 +56,4 @@ no_seats = record { threads = empty; calls = empty; works = empty }
 
 -- what is seen of a core in which nothing was made: no instance, a limit of 100,000 handles, and room for 1,000,000 entries
 abbrev pub nothing : StateView
-nothing = record { core = fresh 0 100000 1000000; tags = record { threads = []; calls = []; sets = []; works = []; tracked = []; wanted = nothing_wanted; seats = no_seats }; current = None }
+nothing = record { core = fresh version.One 0 100000 1000000; tags = record { threads = []; calls = []; sets = []; works = []; tracked = []; wanted = nothing_wanted; seats = no_seats }; current = None }

@@ -23,7 +23,7 @@ use Rattle.core_records.specs.CachedCounts.{AreKept, IsCallKept, IsGroupKept, Is
 use Rattle.core_records.specs.Keys.{call_key, group_key, set_key, thread_key, work_key}
 use Rattle.core_records.specs.Kinds.{on_item}
 use Rattle.core_records.specs.Names.{AreHandlesNamed, HasHome, IsCallNamed, IsWorkNamed, OwnsHandle, kinds}
-use Rattle.core_records.specs.RecordPlaces.{Rises, live_chain, live_work, place_chain, place_filing, ready_call, ready_call_chain, ready_work, ready_work_chain}
+use Rattle.core_records.specs.RecordPlaces.{Rises, live_chain, live_work, place_chain, place_filing, wait_chain, wait_filing, ready_call, ready_call_chain, ready_work, ready_work_chain}
 use Rattle.core_records.specs.Rows.{HaveNodes, IsFollower, IsOfThread, IsKeyed, Low, callers_chain, callers_row, is_of_instance, row, row_chain, instance_queue_chain}
 use Rattle.core_records.specs.declared.call_records.GuestTask.{GuestTask}
 use Rattle.core_records.specs.declared.instance_records.InstanceRecord.{InstanceRecord}
@@ -66,6 +66,7 @@ loose_call c =
       starting_published = false;
       «end» = None;
       task_event = None;
+      cancel_asked = false;
       cancel_delivered = false;
       exited = false;
       result = None;
@@ -103,6 +104,7 @@ bare p = record p {
   wanted = nothing_wanted;
   ended = [];
   end_room = 0;
+  arrivals = 0;
   trapped = false;
 }
 
@@ -119,7 +121,8 @@ pub record AreNamed (p : CoreImage) : Type 0 where
 
 -- Indexes and rows: each chain has just what the machine finds or keeps.
 pub record AreChained (p : CoreImage) : Type 0 where
-  pub places : IsIndex (place_chain p) p.places (filings place_filing p.threads)
+  pub places : IsIndex (place_chain p) p.places (filings (place_filing p.version) p.threads)
+  pub waits : IsIndex (wait_chain p) p.waits (filings wait_filing p.threads)
   pub ready_calls : IsIndex (ready_call_chain p) p.ready_calls (filings ready_call p.calls)
   pub ready_works : IsIndex (ready_work_chain p) p.ready_works (filings ready_work p.works)
   pub polled : IsIndex (live_chain p) p.polled (filings live_work p.works)

@@ -25,6 +25,8 @@ pub struct GuestTask {
     pub ready: Node,
     /// The chain of the threads that are blocked on it.
     pub blocked: usize,
+    /// The chain of its own threads that wait, where a cancel may take any of these: an async-lifted call's in version 2.
+    pub waits: Option<usize>,
 }
 
 /// A group.

@@ -9,7 +9,7 @@ use crate::single::Single;
 use crate::thread_records::{Follower, GuestThread, Queued};
 use crate::work_records::{LiveWork, WorkRecord};
 use core_primitives::WantedId;
-use machine_data::{Entry, MadeCounts};
+use machine_data::{Entry, MadeCounts, Version};
 use std::alloc::Global;
 use table_links::{Links, Node};
 use table_lists::{OrderedLists, TablePlaces};
@@ -46,6 +46,8 @@ pub struct CoreParts {
     pub counter: HandleCounter,
     /// The threads that wait, are blocked or held, or are under a thread.
     pub places: OrderedLists,
+    /// The threads that wait, by their calls, where a cancel may take any of these.
+    pub waits: OrderedLists,
     /// The ready members of sets: calls, and host works.
     pub ready_calls: OrderedLists,
     pub ready_works: OrderedLists,
@@ -80,6 +82,10 @@ pub struct CoreParts {
     /// How many entries the resource table has room for.
     pub capacity: usize,
     pub made: MadeCounts,
+    /// By which rules it runs.
+    pub version: Version,
+    /// In version 2, how often a thread has begun to wait or to be held.
+    pub arrivals: u64,
     pub trapped: bool,
 }
 
@@ -136,6 +142,7 @@ impl CoreParts {
             instances: Vec::new(alloc),
             counter: HandleCounter::new(100_000),
             places: OrderedLists::new(alloc),
+            waits: OrderedLists::new(alloc),
             ready_calls: OrderedLists::new(alloc),
             ready_works: OrderedLists::new(alloc),
             polled: Links::new(alloc, NO_WORK),
@@ -160,6 +167,8 @@ impl CoreParts {
             table_places: TablePlaces::new(alloc),
             capacity: 1_000_000,
             made: NOTHING_MADE,
+            version: Version::One,
+            arrivals: 0,
             trapped: false,
         }
     }

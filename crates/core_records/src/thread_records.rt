@@ -26,6 +26,8 @@ pub struct GuestThread {
     pub barred: bool,
     /// Its node where it waits, is blocked or held, or is under a thread.
     pub node: Node,
+    /// Its node among the threads of its call that wait, where a cancel may take any of these.
+    pub wait: Option<Node>,
     /// The chain of the threads under it.
     pub under: usize,
     /// The chain of the threads behind it, oldest first.

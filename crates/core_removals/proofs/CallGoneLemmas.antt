@@ -1,5 +1,5 @@
 -- Parts without one call, of which no thread is left and which is in no set: they are whole.
-use Rattle.core_records.proofs.Core.{ap, AreChained, AreCounted, arith, BlockedOn, Bool, Call, call_key, calls_of, cases_eq, cond, core_of, deleted, EachEntry, entry_of, false, filings, filter, get, get-remove, group_key, HasHome, HasNumber, HeldIn, inl, inr, is_in_set, IsCallNamed, IsGroupKept, IsWhole, IsWorkNamed, item_at, item_of, Join, key_in, kinds, length, List, nat_lt, ne_eqb, no_callee, None, number_in, Ok, one_if_passes, option_map_or, CoreImage, passing, passing-with_at, place_at, place_at-deleted, place_chain, place_filing, Placed, ready_call, ready_call_chain, ready_in, record_at, Records, refl, remove, Some, SoundTable, Spot, subst, Subtask, sym, Table, table_use, ThreadOf, true, UnderOf, WaitsOn, Where, ℕ, ◌+◌, ◌==◌, ◌∙◌, ◌≡◌, ◌⊎◌, StartsIn, is_sync, not, ◌||◌, ExportKind, Option}
+use Rattle.core_records.proofs.Core.{ap, AreChained, AreCounted, arith, BlockedOn, Bool, Call, call_key, calls_of, cases_eq, cond, core_of, deleted, EachEntry, entry_of, false, filings, filter, get, get-remove, group_key, HasHome, HasNumber, HeldIn, inl, inr, is_in_set, IsCallNamed, IsGroupKept, IsWhole, IsWorkNamed, item_at, item_of, Join, key_in, kinds, length, List, nat_lt, ne_eqb, no_callee, None, number_in, Ok, one_if_passes, option_map_or, CoreImage, passing, passing-with_at, place_at, place_at-deleted, place_chain, place_filing, Placed, ready_call, ready_call_chain, ready_in, record_at, Records, refl, remove, Some, SoundTable, Spot, subst, Subtask, sym, Table, table_use, ThreadOf, true, UnderOf, WaitsOn, Where, ℕ, ◌+◌, ◌==◌, ◌∙◌, ◌≡◌, ◌⊎◌, StartsIn, is_sync, not, ◌||◌, ExportKind, Option, IsIndex, IsIndex-same_chains, option_and_then, wait_chain, wait_filing}
 use Rattle.core_records.specs.declared.{call_records.GuestTask.GuestTask, call_records.TaskGroup.TaskGroup, parts.CachedCounts.CachedCounts, single.Single.Single, thread_records.GuestThread.GuestThread, work_records.WorkRecord.WorkRecord}
 use Rattle.core_places.proofs.AlikeLemmas.{number_alike}
 use Rattle.core_places.proofs.FiledLemmas.{kept_under}
@@ -8,12 +8,13 @@ use Rattle.core_removals.proofs.GoneLemmas.{IsIndex-gone, IsIndex-shut}
 use Rattle.core_removals.proofs.GroupLemmas.{numbers_alike}
 use Rattle.core_removals.proofs.LeftLemmas.{Leaves, named_left}
 use Rattle.core_removals.proofs.LessLemmas.{found_gone, found_still, one_fewer, placed_before}
-use Rattle.core_removals.specs.Chains.{Closes, Drops}
+use Rattle.core_removals.specs.Chains.{Closes, ClosesIf, Drops}
 use Rattle.core_removals.specs.Counted.{uncalled}
 use Rattle.core_records.proofs.KindLemmas.{absent, item_number, item_read, item_stands}
 use Rattle.core_records.proofs.MakeLemmas.{records_less, stands_less}
 use Rattle.table_lists.specs.declared.ordered_lists.OrderKey.{OrderKey}
 use Rattle.core_records.specs.RecordPlaces.{member_order_key}
+use Rattle.core_records.specs.Names.{keeps_waits}
 
 abbrev number : GuestTask → ℕ
 number g = g.number
@@ -30,9 +31,9 @@ module _ (p : CoreImage) (whole : IsWhole p) (made : ℕ) (sound : SoundTable ca
 
   -- ---- The parts without it, with one call less of its group
 
-  module _ (groups : Table (Single TaskGroup)) (alike : Alike uncalled groups p.groups) (places ready_calls : List (Spot OrderKey)) (kept : CachedCounts) where
+  module _ (groups : Table (Single TaskGroup)) (alike : Alike uncalled groups p.groups) (places ready_calls waits : List (Spot OrderKey)) (kept : CachedCounts) where
     abbrev pub less : CoreImage
-    less = record p { calls = deleted rep p.calls; groups = groups; places = places; ready_calls = ready_calls; kept = kept }
+    less = record p { calls = deleted rep p.calls; groups = groups; places = places; ready_calls = ready_calls; waits = waits; kept = kept }
 
     calls_less : (core_of less).calls ≡ remove (core_of p).calls g.number
     calls_less = records_less number machine p.calls made sound rep serial g is
@@ -62,7 +63,7 @@ module _ (p : CoreImage) (whole : IsWhole p) (made : ℕ) (sound : SoundTable ca
     group_left r n at = number_alike uncalled groups p.groups alike (λ (x : TaskGroup). x.number) (λ x. refl) (λ (x : TaskGroup). x.calls) (λ (k : ℕ). 0) (λ x. refl) r ∙ at
 
     call_left : (x : GuestTask) → IsCallNamed p x → IsCallNamed less x
-    call_left x named = record { caller = named_left (kinds p) (kinds less) left x.maker _ named.caller; first = named_left (kinds p) (kinds less) left x.first (ThreadOf x.number) named.first; join = named_left (kinds p) (kinds less) left x.joined _ named.join; group = group_left x.group x.call.group named.group; positive = named.positive }
+    call_left x named = record { caller = named_left (kinds p) (kinds less) left x.maker _ named.caller; first = named_left (kinds p) (kinds less) left x.first (ThreadOf x.number) named.first; join = named_left (kinds p) (kinds less) left x.joined _ named.join; group = group_left x.group x.call.group named.group; positive = named.positive; waits = named.waits }
 
     work_left : (w : WorkRecord) → IsWorkNamed p w → IsWorkNamed less w
     work_left w named = record { caller = named_left (kinds p) (kinds less) left w.maker _ named.caller; join = named_left (kinds p) (kinds less) left w.joined _ named.join; group = λ n at. let one = named.group n at in (group_left w.group n one.0, one.1) }
@@ -83,6 +84,7 @@ module _ (p : CoreImage) (whole : IsWhole p) (made : ℕ) (sound : SoundTable ca
       there = home.there;
       instance = ap (λ o. (option_map_or (λ (c : Call). c.callee) o no_callee).instance) (get_other h.thread.call other) ∙ home.instance;
       barred = ap (λ (o : Option Call). not (h.thread.explicit || is_sync (option_map_or (λ (d : Call). d.kind) o ExportKind.Callback))) (get_other h.thread.call other) ∙ home.barred;
+      waits = ap (λ (o : Option Call). keeps_waits p.version (option_map_or (λ (d : Call). d.kind) o ExportKind.Callback)) (get_other h.thread.call other) ∙ home.waits;
       within = home.within;
       place = named_left (kinds p) (kinds less) left h.state_target _ home.place;
       op_progress = named_left (kinds p) (kinds less) left h.op_target _ home.op_progress;
@@ -102,13 +104,40 @@ module _ (p : CoreImage) (whole : IsWhole p) (made : ℕ) (sound : SoundTable ca
     ]
     place_else (BlockedOn (Subtask.Host i)) = inr refl
 
+    -- its own threads that wait
+    waits_are : wait_chain p g.number ≡ g.waits
+    waits_are = ap (option_and_then (λ c. c)) (kept_under number machine (λ (x : GuestTask). x.waits) p.calls made sound rep serial g is)
+
+    no_waits : wait_chain less g.number ≡ None
+    no_waits = ap (option_and_then (λ c. c)) (found_gone number machine p.calls made sound rep serial g is (λ (x : GuestTask). x.waits))
+
+    waits_else : (k : ℕ) → (k ≡ g.number) ⊎ (wait_chain less k ≡ wait_chain p k)
+    waits_else k = elim (cases_eq k g.number) [
+      | inl same ↦ inl same
+      | inr other ↦ inr (ap (option_and_then (λ c. c)) (found_still number machine p.calls made sound rep serial g is (λ (x : GuestTask). x.waits) k other))
+    ]
+
+    waits_left : ClosesIf p.waits waits g.waits → IsIndex (wait_chain less) waits (filings wait_filing p.threads)
+    waits_left closes = by g.waits refl
+      where
+        by : (o : Option ℕ) → g.waits ≡ o → IsIndex (wait_chain less) waits (filings wait_filing p.threads)
+        by None none =
+            let same : waits ≡ p.waits = subst (ClosesIf p.waits waits) none closes in
+            subst (λ (ws : List (Spot OrderKey)). IsIndex (wait_chain less) ws (filings wait_filing p.threads)) (sym same)
+            (IsIndex-same_chains (wait_chain p) p.waits (filings wait_filing p.threads) whole.chained.waits (wait_chain less) (λ k. elim (waits_else k) [
+              | inl here ↦ ap (wait_chain less) here ∙ no_waits ∙ sym (ap (wait_chain p) here ∙ waits_are ∙ none)
+              | inr still ↦ still
+            ]))
+        by (Some c) some = IsIndex-shut (wait_chain p) (wait_chain less) p.waits waits g.number c (waits_are ∙ some) no_waits waits_else (subst (ClosesIf p.waits waits) some closes) (filings wait_filing p.threads) whole.chained.waits
+
     groups_same : (core_of less).groups ≡ (core_of p).groups
     groups_same = ap (filter (nat_lt p.finished)) (numbers_alike groups p.groups alike)
 
-    module _ (nowhere : g.call.join ≡ Join.Nowhere) (each_apart : EachEntry (λ (h : GuestThread). h.thread.call ≡ g.number → ⊥) p.threads) (shut : Closes p.places places g.blocked) (ready_out : Drops p.ready_calls ready_calls g.ready.index) (used : kept.used + 1 ≡ p.kept.used) (same_groups : kept.groups ≡ p.kept.groups) (live : kept.live ≡ p.kept.live) (groups_kept : EachEntry (IsGroupKept (core_of less)) groups) where
+    module _ (nowhere : g.call.join ≡ Join.Nowhere) (each_apart : EachEntry (λ (h : GuestThread). h.thread.call ≡ g.number → ⊥) p.threads) (shut : Closes p.places places g.blocked) (ready_out : Drops p.ready_calls ready_calls g.ready.index) (waits_out : ClosesIf p.waits waits g.waits) (used : kept.used + 1 ≡ p.kept.used) (same_groups : kept.groups ≡ p.kept.groups) (live : kept.live ≡ p.kept.live) (groups_kept : EachEntry (IsGroupKept (core_of less)) groups) where
       chained_left : AreChained less
       chained_left = record {
-        places = IsIndex-shut (place_chain p) (place_chain less) p.places places (BlockedOn (Subtask.Guest g.number)) g.blocked blocked_is (found_gone number machine p.calls made sound rep serial g is (λ (x : GuestTask). x.blocked)) place_else shut (filings place_filing p.threads) whole.chained.places;
+        places = IsIndex-shut (place_chain p) (place_chain less) p.places places (BlockedOn (Subtask.Guest g.number)) g.blocked blocked_is (found_gone number machine p.calls made sound rep serial g is (λ (x : GuestTask). x.blocked)) place_else shut (filings (place_filing p.version) p.threads) whole.chained.places;
+        waits = waits_left waits_out;
         ready_calls = IsIndex-gone ready_call (ready_call_chain less) p.calls rep stands.0 stands.1.0 (record { node = stands.0.entry.item.ready.index; key = ready_in stands.0.entry.item.call.event stands.0.entry.item.call.join; value = member_order_key stands.0.entry.item.entry rep }) refl p.ready_calls ready_calls
             (subst (λ (e : Single GuestTask). Drops p.ready_calls ready_calls e.item.ready.index) (sym stands.1.1.1) ready_out) whole.chained.ready_calls;
         ready_works = whole.chained.ready_works;

@@ -1,6 +1,6 @@
 -- A call is gone, as the primitive takes it away.
 use Rattle.core_queues.proofs.SeatLemmas.{seats_less}
-use Rattle.core_records.proofs.Core.{ap, ap₂, AreHandlesNamed, arith, bare, bare_call, bare_thread, BlockedOn, Call, call_group, call_key, call_of, calls_of, cond, Core, core_of, deleted, EachEntry, entry_of, eq-eqb, false, filings_at, filter, get, group_key, GroupKey, GuestTaskKey, has_thread, is_made, IsGroupKept, IsSome, IsSoundCore, IsTable, IsWhole, item_at, item_of, Join, join_of, KeepsBut, kinds, List, list_of, loose_call, lost_call, mapped-deleted, nat_lt, ne_eqb, None, number_of, Ok, on_item, one_if_passes, option_map_or, CoreImage, parts_of, passing, passing-with_at, place_at, Placed, ready_call, Records, records, refl, remove, remove_call, seen, set_number, Some, SoundTable, Spot, subst, Subtask, sym, Table, table_use, TableId, Thread, thread_number, true, uninterested, with_entry, work_number, ℕ, ◌+◌, ◌-◌, ◌<◌, ◌==◌, ◌∙◌, ◌≡◌, ◌≤◌, numbers, tracked_of}
+use Rattle.core_records.proofs.Core.{ap, ap₂, AreHandlesNamed, arith, bare, bare_call, bare_thread, BlockedOn, Call, call_group, call_key, call_of, calls_of, cond, Core, core_of, deleted, EachEntry, entry_of, eq-eqb, false, filings_at, filter, get, group_key, GroupKey, GuestTaskKey, has_thread, is_made, IsGroupKept, IsSome, IsSoundCore, IsTable, IsWhole, item_at, item_of, Join, join_of, KeepsBut, kinds, List, list_of, loose_call, lost_call, mapped-deleted, nat_lt, ne_eqb, None, number_of, Ok, on_item, one_if_passes, option_map_or, CoreImage, parts_of, passing, passing-with_at, place_at, Placed, ready_call, Records, records, refl, remove, remove_call, seen, set_number, Some, SoundTable, Spot, subst, Subtask, sym, Table, table_use, TableId, Thread, thread_number, true, uninterested, with_entry, work_number, ℕ, ◌+◌, ◌-◌, ◌<◌, ◌==◌, ◌∙◌, ◌≡◌, ◌≤◌, numbers, tracked_of, IfSome, Option, option_and_then}
 use Rattle.core_records.specs.declared.{call_records.GuestTask.GuestTask, call_records.TaskGroup.TaskGroup, parts.CoreParts.CoreParts, parts.CachedCounts.CachedCounts, single.Single.Single, thread_records.GuestThread.GuestThread}
 use Rattle.core_places.proofs.AlikeLemmas.{number_of_alike}
 use Rattle.core_places.proofs.FiledLemmas.{kept_under}
@@ -12,7 +12,7 @@ use Rattle.core_removals.proofs.GroupLemmas.{numbers_alike}
 use Rattle.core_removals.proofs.LeftLemmas.{handles_left}
 use Rattle.core_removals.proofs.LessLemmas.{one_fewer, passes_not, read_at}
 use Rattle.core_removals.proofs.RewriteLemmas.{each_rewritten, each_there, rewritten_alike}
-use Rattle.core_removals.specs.Chains.{Closes, Drops}
+use Rattle.core_removals.specs.Chains.{Closes, ClosesIf, Drops}
 use Rattle.core_removals.specs.Counted.{uncalled}
 use Rattle.core_records.proofs.HomeLemmas.{call_names}
 use Rattle.std.specs.Prelude.{vec_capacity}
@@ -59,6 +59,14 @@ module _ (a : CoreParts) (sound : IsSoundCore a) (id : TableId GuestTaskKey) (g 
 
   pub blocked_live : IsSome (list_of a.places g.blocked)
   blocked_live = whole.chained.places.live (BlockedOn (Subtask.Guest g.number)) g.blocked (kept_under number machine (λ (x : GuestTask). x.blocked) bared.calls a.made.threads calls_sound id.rep id.serial (bare_call g) bare_is)
+
+  pub waits_live : IfSome g.waits (λ c. IsSome (list_of a.waits c))
+  waits_live = by g.waits refl
+    where
+      by : (o : Option ℕ) → g.waits ≡ o → IfSome o (λ c. IsSome (list_of a.waits c))
+      by None none = tt
+      by (Some c) some = whole.chained.waits.live g.number c
+          (ap (option_and_then (λ c. c)) (kept_under number machine (λ (x : GuestTask). x.waits) bared.calls a.made.threads calls_sound id.rep id.serial (bare_call g) bare_is) ∙ some)
 
   pub ready_made : is_made a.ready_calls g.ready.index ≡ true
   ready_made = subst (λ (e : Single GuestTask). is_made a.ready_calls e.item.ready.index ≡ true) bare_stands.1.1.1 (whole.chained.ready_calls.made id.rep _ (filings_at ready_call bared.calls id.rep (Some bare_stands.0) bare_stands.1.0))
@@ -108,7 +116,7 @@ module _ (a : CoreParts) (sound : IsSoundCore a) (id : TableId GuestTaskKey) (g 
     -- it is one of the calls of its group
     pub group_counted : 1 ≤ r.calls
     group_counted =
-        let law = calls_counted bared whole a.made.threads calls_sound id.rep id.serial (bare_call g) bare_is groups_less alike a.places a.ready_calls a.kept r.number in
+        let law = calls_counted bared whole a.made.threads calls_sound id.rep id.serial (bare_call g) bare_is groups_less alike a.places a.ready_calls a.waits a.kept r.number in
         let one : cond {A = ℕ} ((bare_call g).call.group == r.number) 1 0 ≡ 1 = ap (λ b. cond b 1 0) (eq-eqb g.call.group r.number (sym of)) in
         let all : r.calls ≡ calls_of r.number (core_of bared) = each_there group_number group_calls a.groups a.made.groups groups_sound group.rep group.serial r is_r (IsGroupKept (core_of bared)) whole.counted.groups in
         omega arith
@@ -128,21 +136,21 @@ module _ (a : CoreParts) (sound : IsSoundCore a) (id : TableId GuestTaskKey) (g 
           (read_at (λ (h : GuestThread). h.number) (λ (h : GuestThread). h.thread) a.threads a.made.threads sound.tables.threads r one.0 one.1.0)
           (eq-eqb one.0.entry.item.thread.call (call_of (seen a) id) (ap (λ (e : Single GuestThread). e.item.thread.call) one.1.1 ∙ (same ∙ named)))
 
-      module _ (places ready_calls : List (Spot OrderKey)) (shut : Closes a.places places g.blocked) (ready_out : Drops a.ready_calls ready_calls g.ready.index) (interesting : ℕ) (still : interesting + cond g.call.interesting 1 0 ≡ a.kept.interesting) where
+      module _ (places ready_calls waits : List (Spot OrderKey)) (shut : Closes a.places places g.blocked) (ready_out : Drops a.ready_calls ready_calls g.ready.index) (waits_out : ClosesIf a.waits waits g.waits) (interesting : ℕ) (still : interesting + cond g.call.interesting 1 0 ≡ a.kept.interesting) where
         abbrev pub call_removed : CoreParts
-        call_removed = record a { calls = deleted id.rep a.calls; groups = groups_less; places = places; ready_calls = ready_calls; kept = record a.kept { used = a.kept.used - 1; interesting = interesting } }
+        call_removed = record a { calls = deleted id.rep a.calls; groups = groups_less; places = places; ready_calls = ready_calls; waits = waits; kept = record a.kept { used = a.kept.used - 1; interesting = interesting } }
 
         abbrev bare_kept : CachedCounts
         bare_kept = record a.kept { used = a.kept.used - 1; interesting = 0; moving = 0 }
 
         abbrev gone : CoreImage
-        gone = less bared whole a.made.threads calls_sound id.rep id.serial (bare_call g) bare_is groups_less alike places ready_calls bare_kept
+        gone = less bared whole a.made.threads calls_sound id.rep id.serial (bare_call g) bare_is groups_less alike places ready_calls waits bare_kept
 
         bare_gone : bare (parts_of call_removed) ≡ gone
         bare_gone = ap (λ (t : Table (Single GuestTask)). record gone { calls = t }) (mapped-deleted (on_item bare_call) a.calls id.rep)
 
         counted : (n : ℕ) → calls_of n (core_of gone) + cond (g.call.group == n) 1 0 ≡ calls_of n (core_of bared)
-        counted = calls_counted bared whole a.made.threads calls_sound id.rep id.serial (bare_call g) bare_is groups_less alike places ready_calls bare_kept
+        counted = calls_counted bared whole a.made.threads calls_sound id.rep id.serial (bare_call g) bare_is groups_less alike places ready_calls waits bare_kept
 
         groups_kept : EachEntry (IsGroupKept (core_of gone)) groups_less
         groups_kept = each_rewritten group_number group_calls a.groups a.made.groups groups_sound group.rep group.serial r is_r group_less (IsGroupKept (core_of bared)) (IsGroupKept (core_of gone)) new others whole.counted.groups
@@ -162,7 +170,7 @@ module _ (a : CoreParts) (sound : IsSoundCore a) (id : TableId GuestTaskKey) (g 
         gone_whole : IsWhole gone
         gone_whole =
             let all = call_counted in
-            less_whole bared whole a.made.threads calls_sound id.rep id.serial (bare_call g) bare_is groups_less alike places ready_calls bare_kept nowhere each_apart shut ready_out (omega arith) refl refl groups_kept
+            less_whole bared whole a.made.threads calls_sound id.rep id.serial (bare_call g) bare_is groups_less alike places ready_calls waits bare_kept nowhere each_apart shut ready_out waits_out (omega arith) refl refl groups_kept
 
         live_same : filter (nat_lt a.finished) (numbers (records group_key groups_less.places)) ≡ filter (nat_lt a.finished) (numbers (records group_key a.groups.places))
         live_same = ap (filter (nat_lt a.finished)) (numbers_alike groups_less a.groups alike)
@@ -180,7 +188,7 @@ module _ (a : CoreParts) (sound : IsSoundCore a) (id : TableId GuestTaskKey) (g 
           whole = subst IsWhole (sym bare_gone) gone_whole;
           interesting = let law = interest in let all = sound.interesting in let less = still in omega arith;
           moving = sound.moving;
-          handles = λ i q at. subst (λ (p : CoreImage). AreHandlesNamed (kinds p) q) (sym bare_gone) (handles_left (kinds bared) (kinds gone) (left bared whole a.made.threads calls_sound id.rep id.serial (bare_call g) bare_is groups_less alike places ready_calls bare_kept) q (sound.handles i q at));
+          handles = λ i q at. subst (λ (p : CoreImage). AreHandlesNamed (kinds p) q) (sym bare_gone) (handles_left (kinds bared) (kinds gone) (left bared whole a.made.threads calls_sound id.rep id.serial (bare_call g) bare_is groups_less alike places ready_calls waits bare_kept) q (sound.handles i q at));
           owned = sound.owned;
           live = sound.live;
           ended = ended_alike a.ended.items (vec_capacity a.ended) _ _ a.made.groups live_same sound.ended;

@@ -27,16 +27,16 @@ module _ (a : CoreParts) (sound : IsSoundCore a) (k : Where) (c : ℕ) (chain : 
         by None is = rw is refl
         by (Some t) is = rw is refl
 
-    reads : (r : ℕ) (p : Placed (Single GuestThread)) (f : Filing Where OrderKey) (x : ℕ × Thread) → place_at a.threads r ≡ Some p → place_filing r p.serial p.entry ≡ Some f → thread_key p.entry ≡ Some x → at_order_key a f.value ≡ x.0
+    reads : (r : ℕ) (p : Placed (Single GuestThread)) (f : Filing Where OrderKey) (x : ℕ × Thread) → place_at a.threads r ≡ Some p → (place_filing a.version) r p.serial p.entry ≡ Some f → thread_key p.entry ≡ Some x → at_order_key a f.value ≡ x.0
     reads r p f x at says key =
-        ap (λ (g : Filing Where OrderKey). at_order_key a g.value) (sym (same_Some (record { node = p.entry.item.node.index; key = where_at p.entry.item.instance p.entry.item.barred p.entry.item.thread.place; value = thread_order_key r p.entry.item }) f says))
+        ap (λ (g : Filing Where OrderKey). at_order_key a g.value) (sym (same_Some (record { node = p.entry.item.node.index; key = where_at p.entry.item.instance p.entry.item.barred p.entry.item.thread.place; value = thread_order_key a.version r p.entry.item }) f says))
         ∙ (ap (λ o. number_in (key_in thread_key o)) at ∙ ap number_in key)
 
     -- has just those that pass
     pub chain_members : IsMembers (λ n. is_at n (seen a).core test) (of_chain a c)
     unfolding IsSoundCore
     chain_members =
-        let walked = IsMembers-walked place_filing (place_chain (bare (parts_of a))) a.threads a.places (places_filed a sound) k c chain thread_key (λ (e : ℕ × Thread). test e.1.place) (place_tests k test passes filed) links sound.tables.threads.apart (at_order_key a) reads in
+        let walked = IsMembers-walked (place_filing a.version) (place_chain (bare (parts_of a))) a.threads a.places (places_filed a sound) k c chain thread_key (λ (e : ℕ × Thread). test e.1.place) (place_tests a.version k test passes filed) links sound.tables.threads.apart (at_order_key a) reads in
         record { once = walked.once; are = λ n. walked.are n ∙ sym (tested n) }
 
     -- so the least of it is the machine's first

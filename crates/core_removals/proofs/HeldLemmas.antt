@@ -1,4 +1,5 @@
 -- The chain of an instance's held threads has just these.
+use Rattle.machine_data.specs.declared.scenario.Version.{Version}
 use Rattle.core_records.proofs.Core.{[], admitted_held, admitted_permute, ap, ap₂, bare, bare_thread, Bool, call_instance, cond, Core, eq-eqb, eqb-true, false, Filing, filter, found_permute, found_record_at, get, get-records, has, HasHome, head_of, held_why, HeldIn, if◌then◌else◌, instance_of, is_held_in, is_nil, is_some, IsLinks, IsMembers, IsMembers-nothing, IsMembers-walked, IsPermutation, IsSome, IsSoundCore, key_in, List, list_any, map, Node, None, not, number_in, on_item, Once, Option, option_and_then, option_map, option_map_or, parts_of, passes_in, Place, place_at, place_chain, place_filing, Placed, record_found, records, refl, same_Some, seen, slice_get, slice_get-map, Some, StartsIn, subst, sym, Tests, Thread, thread_key, true, Where, where_at, Why, ℕ, ◌&&◌, ◌++◌, ◌==◌, ◌||◌, ◌∙◌, ◌∷◌, ◌≡◌}
 use Rattle.std.proofs.Math.Bool.{or_assoc}
 use Rattle.std.proofs.lemmas.Bool.{and_parts, or_right}
@@ -68,12 +69,12 @@ held_passes true i j b (Place.Blocked sub) is = absurd (cc)
 held_passes false i j b (Place.Blocked sub) is = absurd (cc)
 held_passes starts i j b Place.Suspended is = absurd (cc)
 
-held_tests : (starts : Bool) (i : ℕ) → Tests place_filing held_key (held_where starts i) (holds_in starts i)
-held_tests starts i = record {
-  passes = λ rep serial e f says is_k. ((e.item.number, (e.item.thread, (e.item.instance, e.item.barred))), (refl, held_passes starts i e.item.instance e.item.barred e.item.thread.place (ap (λ (g : Filing Where OrderKey). g.key) (same_Some (record { node = e.item.node.index; key = where_at e.item.instance e.item.barred e.item.thread.place; value = thread_order_key rep e.item }) f says) ∙ is_k)));
+held_tests : (v : Version) (starts : Bool) (i : ℕ) → Tests (place_filing v) held_key (held_where starts i) (holds_in starts i)
+held_tests v starts i = record {
+  passes = λ rep serial e f says is_k. ((e.item.number, (e.item.thread, (e.item.instance, e.item.barred))), (refl, held_passes starts i e.item.instance e.item.barred e.item.thread.place (ap (λ (g : Filing Where OrderKey). g.key) (same_Some (record { node = e.item.node.index; key = where_at e.item.instance e.item.barred e.item.thread.place; value = thread_order_key v rep e.item }) f says) ∙ is_k)));
   filed = λ rep serial e x says is.
       let one = and_parts _ _ (ap (holds_in starts i) (same_Some (e.item.number, (e.item.thread, (e.item.instance, e.item.barred))) x says) ∙ is) in
-      (record { node = e.item.node.index; key = where_at e.item.instance e.item.barred e.item.thread.place; value = thread_order_key rep e.item }, (refl, held_filed starts i e.item.instance e.item.barred e.item.thread.place one.0 one.1));
+      (record { node = e.item.node.index; key = where_at e.item.instance e.item.barred e.item.thread.place; value = thread_order_key v rep e.item }, (refl, held_filed starts i e.item.instance e.item.barred e.item.thread.place one.0 one.1));
 }
 
 none_in : (b : Bool) → (b && false) ≡ false
@@ -199,16 +200,16 @@ module _ (a : CoreParts) (sound : IsSoundCore a) where
         sym (ap (λ o. (call_instance (option_map_or (λ (t : Thread). t.call) o 0) (seen a).core == i) && listed_at starts (seen a).core o) none ∙ none_in _)
     held_is (Some (t, (j, c))) is = let one = record_found held_key a.threads.places n (t, (j, c)) (sym (get-records held_key a.threads.places n) ∙ is) in sym (held_at one.0 t j c (place_at a.threads one.0) refl one.1)
 
-  reads : (r : ℕ) (p : Placed (Single GuestThread)) (f : Filing Where OrderKey) (x : ℕ × (Thread × (ℕ × Bool))) → place_at a.threads r ≡ Some p → place_filing r p.serial p.entry ≡ Some f → held_key p.entry ≡ Some x → at_order_key a f.value ≡ x.0
+  reads : (r : ℕ) (p : Placed (Single GuestThread)) (f : Filing Where OrderKey) (x : ℕ × (Thread × (ℕ × Bool))) → place_at a.threads r ≡ Some p → (place_filing a.version) r p.serial p.entry ≡ Some f → held_key p.entry ≡ Some x → at_order_key a f.value ≡ x.0
   reads r p f x at says key =
-      ap (λ (g : Filing Where OrderKey). at_order_key a g.value) (sym (same_Some (record { node = p.entry.item.node.index; key = where_at p.entry.item.instance p.entry.item.barred p.entry.item.thread.place; value = thread_order_key r p.entry.item }) f says))
+      ap (λ (g : Filing Where OrderKey). at_order_key a g.value) (sym (same_Some (record { node = p.entry.item.node.index; key = where_at p.entry.item.instance p.entry.item.barred p.entry.item.thread.place; value = thread_order_key a.version r p.entry.item }) f says))
       ∙ (ap (λ o. number_in (key_in thread_key o)) at ∙ ap number_in key)
 
   -- each of the two chains has just those that are listed there
   pub listed_members : IsLinks a.places → (starts : Bool) (i c : ℕ) → place_chain (bare (parts_of a)) (held_where starts i) ≡ Some c → IsMembers (listed_in starts i (seen a).core) (of_chain a c)
   unfolding IsSoundCore
   listed_members links starts i c chain =
-      let walked = IsMembers-walked place_filing (place_chain (bare (parts_of a))) a.threads a.places (places_filed a sound) (held_where starts i) c chain held_key (holds_in starts i) (held_tests starts i) links (apart_as (λ (g : GuestThread). g.number) (λ (g : GuestThread). g.thread) (λ (g : GuestThread). (g.thread, (g.instance, g.barred))) a.threads.places sound.tables.threads.apart) (at_order_key a) reads in
+      let walked = IsMembers-walked (place_filing a.version) (place_chain (bare (parts_of a))) a.threads a.places (places_filed a sound) (held_where starts i) c chain held_key (holds_in starts i) (held_tests a.version starts i) links (apart_as (λ (g : GuestThread). g.number) (λ (g : GuestThread). g.thread) (λ (g : GuestThread). (g.thread, (g.instance, g.barred))) a.threads.places sound.tables.threads.apart) (at_order_key a) reads in
       record { once = walked.once; are = λ n. walked.are n ∙ held_is starts i n (get (records held_key a.threads.places) n) refl }
 
   -- both together have just those that are held

@@ -27,10 +27,10 @@ module _ (p : CoreImage) (whole : IsWhole p) (none : p.live ≡ None) (c : ℕ) 
       by (Some q) at is = none_some (whole.counted.works r q at).1
 
   home_same : (g : GuestThread) → HasHome p g → HasHome opened g
-  home_same g h = record { call = h.call; there = h.there; instance = h.instance; barred = h.barred; within = h.within; place = h.place; op_progress = h.op_progress }
+  home_same g h = record { call = h.call; there = h.there; instance = h.instance; barred = h.barred; waits = h.waits; within = h.within; place = h.place; op_progress = h.op_progress }
 
   call_same : (g : GuestTask) → IsCallNamed p g → IsCallNamed opened g
-  call_same g h = record { caller = h.caller; first = h.first; join = h.join; group = h.group; positive = h.positive }
+  call_same g h = record { caller = h.caller; first = h.first; join = h.join; group = h.group; positive = h.positive; waits = h.waits }
 
   work_same : (w : WorkRecord) → IsWorkNamed p w → IsWorkNamed opened w
   work_same w h = record { caller = h.caller; join = h.join; group = h.group }
@@ -46,6 +46,7 @@ module _ (p : CoreImage) (whole : IsWhole p) (none : p.live ≡ None) (c : ℕ) 
     };
     chained = record {
       places = whole.chained.places;
+      waits = whole.chained.waits;
       ready_calls = whole.chained.ready_calls;
       ready_works = whole.chained.ready_works;
       polled = IsIndex-opened (live_chain p) (live_chain opened) p.polled tt (λ j. inl refl) (λ j other. absurd (other refl)) c refl (record { empty = empty; apart = λ k at. no_chain c at }) (filings live_work p.works) whole.chained.polled no_work;

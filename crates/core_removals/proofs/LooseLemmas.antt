@@ -13,7 +13,7 @@ module _ (a b c d e : CoreParts) (n : WorkNodes) (sound_a : IsSoundCore a) (soun
     (blocked : Renames a.places b.places n.blocked Unmade (ChainOf [])) (ready : Renames b.ready_works c.ready_works n.ready.index Unmade FreeNode) (live : Renames c.polled d.polled n.live.index Unmade FreeNode) (mark : Renames d.marks e.marks n.mark.index Unmade FreeNode) where
   blocked_new : IsLoose (place_chain (bare (parts_of a))) b.places n.blocked
   unfolding IsSoundCore
-  blocked_new = loose_index (place_chain (bare (parts_of a))) a.places b.places (filings place_filing (bare (parts_of a)).threads) sound_a.whole.chained.places n.blocked blocked
+  blocked_new = loose_index (place_chain (bare (parts_of a))) a.places b.places (filings (place_filing a.version) (bare (parts_of a)).threads) sound_a.whole.chained.places n.blocked blocked
 
   ready_new : IsSpare (λ (w : WorkRecord). w.ready.index) (bare (parts_of b)).works c.ready_works n.ready.index
   unfolding IsSoundCore

@@ -1,13 +1,15 @@
 -- A release of what is wanted and then of the others: those that are admitted, in the order of the preference.
-use Rattle.core_records.proofs.Core.{[], admitted_held, ap, ap₂, arith, Bool, cases_eq, cond, Core, eq-eqb, eqb-true, false, filter, get, has, held_why, held_why_of, inl, inr, is_held_admitted, IsMembers-filter, IsMembers-numbers, is_some, List, list_any, ne_eqb, None, not, on_thread, option_and_then, option_map, Option, or_left, push_high, put_high, refl, released, released_one, set_place, Some, subst, sym, Thread, true, Why, ℕ, ◌&&◌, ◌++◌, ◌==◌, ◌||◌, ◌∙◌, ◌≡◌, ◌∷◌}
+use Rattle.core_records.proofs.Core.{[], admitted_held, ap, ap₂, arith, Bool, cases_eq, cond, Core, eq-eqb, eqb-true, false, filter, get, has, held_why, held_why_of, inl, inr, is_held_admitted, IsMembers-filter, IsMembers-numbers, is_some, List, list_any, ne_eqb, None, not, on_thread, option_and_then, option_map, option_map_or, Option, push_high, put_high, refl, released, released_one, set_place, Some, subst, sym, Thread, true, Why, ℕ, ◌&&◌, ◌++◌, ◌==◌, ◌||◌, ◌∙◌, ◌≡◌, ◌∷◌}
 use Rattle.core_counts.proofs.EndedLemmas.{permuted_has, permuted_once}
 use Rattle.core_removals.proofs.ReleaseLemmas.{put_calls, put_instances, put_others, same_admitted, same_held, same_instance, admitted_held as held_of}
 use Rattle.core_removals.specs.Held.{AreHeldUnqueued, is_admitted, raised, raised_of, raised_one}
+use Rattle.machine_data.proofs.CommuteLemmas.{get-change}
 use Rattle.machine_data.proofs.MapLemmas.{get-change_other, get-change_same}
+use Rattle.machine_data.specs.Read.{came_of}
 use Rattle.machine_data.specs.declared.records.Place.{Place}
+use Rattle.machine_data.specs.declared.scenario.Version.{Version}
 use Rattle.machine_data.specs.declared.statuses.Mark.{Mark}
-use Rattle.machine_rules.specs.Picks.{Preference, goes_in_order, held_before, listed_before, thread_before}
-use Rattle.std.proofs.lemmas.List.Sorted.{IsPermutation-refl}
+use Rattle.machine_rules.specs.Picks.{Preference, earlier_by, earlier_in, goes_in_order, held_before, listed_before}
 use Rattle.std.proofs.lemmas.List.{at_drop_all, at_drop_more}
 use Rattle.core_records.proofs.Core.{get_or}
 use Rattle.std.specs.Prelude.{drop, length, ◌+◌, ◌<◌, ◌≤◌}
@@ -250,9 +252,9 @@ raised_in_order p i (n ∷ ns) pre rest s is past left order = by (is_admitted i
         goes_on p n (raised_of i ns t ++ rest)
         (none_passes (λ m. held_before p m n) (raised_of i ns t ++ rest) (λ m there.
         let admitted = sym (step m) ∙ after m there in
-        ap (λ l. listed_before l m n (thread_before p.seats m n)) is
-        ∙ (listed_past pre (n ∷ ns) m n (thread_before p.seats m n) (past m (both (is_admitted i s m) (m == n) admitted)) (past n on)
-        ∙ ap (λ b. cond b false (cond (n == m) true (listed_before ns m n (thread_before p.seats m n)))) (eq-eqb n n refl))))
+        ap (λ l. listed_before l m n (p.earlier m n)) is
+        ∙ (listed_past pre (n ∷ ns) m n (p.earlier m n) (past m (both (is_admitted i s m) (m == n) admitted)) (past n on)
+        ∙ ap (λ b. cond b false (cond (n == m) true (listed_before ns m n (p.earlier m n)))) (eq-eqb n n refl))))
         (again t
         (λ m admitted. let was = sym (step m) ∙ admitted in one_more m n pre (past m (both (is_admitted i s m) (m == n) was)) (apart m n (second (is_admitted i s m) (m == n) was)))
         left)
@@ -296,7 +298,7 @@ module _ (a : CoreParts) (sound : IsSoundCore a) where
       let one = held_there i n (admitted n (here_has n ns)) in
       let two = held_there i m (admitted m later) in
       unlisted (preference (seen a)).held m n _ (unwanted m later) (unwanted n (here_has n ns))
-      ∙ (ap₂ (thread_before (seen a).tags.seats) (sym two.1.1.1) (sym one.1.1.1)
+      ∙ (ap₂ (earlier_in (seen a).core (seen a).tags.seats) (sym two.1.1.1) (sym one.1.1.1)
       ∙ (ordered_there a sound two.0 one.0 two.1.0 one.1.0 two.1.1.0 one.1.1.0
       ∙ each_has (NotBefore a n) ns are.0 m there one.0 one.1.0 one.1.1.0 one.1.1.1 two.0 two.1.0 two.1.1.0 two.1.1.1))))
       (placed_in_order i ns are.1 (λ m there. admitted m (later_has n ns m there)) (λ m there. unwanted m (later_has n ns m there)))
@@ -342,6 +344,45 @@ unfolding released
 released_both [] ys s = refl
 released_both (x ∷ xs) ys s = released_both xs ys (released_one x (held_why_of x s) s)
 
+-- ---- What threads are ordered by stays as they are raised
+
+-- by the same rules, and each thread came when it had come
+abbrev AsBefore : Core → Core → Type 0
+AsBefore s t = (t.version ≡ s.version) × ((k : ℕ) → came_of k t ≡ came_of k s)
+
+put_as_before : (n : ℕ) (w : Why) (s : Core) → AsBefore s (put_high n w s)
+unfolding put_high push_high set_place on_thread
+put_as_before n w s = (refl, λ k. ap (λ (o : Option Thread). option_map_or (λ (d : Thread). d.came) o 0) (get-change n (λ (x : Thread). record x { place = Place.Ready Mark.High w }) s.threads k) ∙ by (k == n) (get s.threads k))
+  where
+    by : (b : Bool) (o : Option Thread) → option_map_or (λ (d : Thread). d.came) (cond b (option_map (λ (x : Thread). record x { place = Place.Ready Mark.High w }) o) o) 0 ≡ option_map_or (λ (d : Thread). d.came) o 0
+    by true None = refl
+    by true (Some d) = refl
+    by false o = refl
+
+one_as_before : (i n : ℕ) (s : Core) → AsBefore s (raised_one i n s)
+unfolding released
+one_as_before i n s = by (is_admitted i s n)
+  where
+    put : (o : Option Why) → AsBefore s (released_one n o s)
+    put None = (refl, λ k. refl)
+    put (Some w) = put_as_before n w s
+
+    by : (b : Bool) → AsBefore s (cond b (released (n ∷ []) s) s)
+    by true = put (held_why_of n s)
+    by false = (refl, λ k. refl)
+
+raised_as_before : (i : ℕ) (ns : List ℕ) (s : Core) → AsBefore s (raised i ns s)
+raised_as_before i [] s = (refl, λ k. refl)
+raised_as_before i (n ∷ ns) s =
+    let one = one_as_before i n s in
+    let rest = raised_as_before i ns (raised_one i n s) in
+    (rest.0 ∙ one.0, λ k. rest.1 k ∙ one.1 k)
+
+preference_stays : (v : StateView) (t : Core) → AsBefore v.core t → preference (with_core t v) ≡ preference v
+preference_stays v t before =
+    let came : ◌≡◌ {A = ℕ → ℕ} (λ k. came_of k t) (λ k. came_of k v.core) = λ j k. before.1 k j in
+    ap₂ (λ (u : Version) (c : ℕ → ℕ). record (preference v) { earlier = earlier_by u c v.tags.seats }) before.0 came
+
 -- those that are wanted were raised, and then the others were released
 pub wanted_released : (a b : CoreParts) → IsSoundCore b → (i : ℕ) (t : StateView) → seen b ≡ on_core (raised i (preference (seen a)).held) (seen a)
     → (order : List ℕ) × (AreInOrder b order × (IsPermutation (admitted_held i (seen b).core) order × (t ≡ on_core (released order) (seen b)))) → ReleasesHeld i (seen a) t
@@ -351,7 +392,7 @@ wanted_released a b sound i t mid picks =
     let ns = p.held in
     let order = picks.0 in
     let core : (seen b).core ≡ raised i ns s = ap (λ (v : StateView). v.core) mid in
-    let same : preference (seen b) ≡ p = ap preference mid in
+    let same : preference (seen b) ≡ p = ap preference mid ∙ preference_stays (seen a) (raised i ns s) (raised_as_before i ns s) in
     let moved : IsPermutation (admitted_held i (raised i ns s)) order = subst (λ (c : Core). IsPermutation (admitted_held i c) order) core picks.1.1.0 in
     let left : (m : ℕ) → has m order ≡ true → is_admitted i (raised i ns s) m ≡ true = λ m there. ap (λ c. is_admitted i c m) (sym core) ∙ admitted_in b sound i order picks.1.1.0 m there in
     let unlisted : (m : ℕ) → has m order ≡ true → has m ns ≡ false = λ m there. apart (is_admitted i s m) (has m ns) (sym (raised_admits i ns s m) ∙ left m there) in

@@ -185,17 +185,17 @@ module _ (a : CoreParts) (sound : IsSoundCore a) (c node : ℕ) (v : OrderKey) (
   unfolding IsSoundCore
   own_node = by o.0 o.1.0 o.1.1.0 o.1.1.1 (place_at a.threads o.0) refl
     where
-      o : (r : ℕ) × ((f : Filing Where OrderKey) × ((filings place_filing a.threads r ≡ Some f) × (f.node ≡ node)))
+      o : (r : ℕ) × ((f : Filing Where OrderKey) × ((filings (place_filing a.version) a.threads r ≡ Some f) × (f.node ≡ node)))
       o = (places_filed a sound).owner node c v link
 
       value : (f : Filing Where OrderKey) (x : Option ℕ) → option_map {U = ℕ × OrderKey} (λ d. (d, f.value)) x ≡ Some (c, v) → f.value ≡ v
       value f None same = absurd (cc)
       value f (Some d) same = ap (λ (y : ℕ × OrderKey). y.1) (same_Some (d, f.value) (c, v) same)
 
-      by : (r : ℕ) (f : Filing Where OrderKey) → filings place_filing a.threads r ≡ Some f → f.node ≡ node → (q : Option (Standing (Single GuestThread))) → place_at a.threads r ≡ q → g.node.index ≡ node
-      by r f filed at None there = absurd (let none = sym (filings_at place_filing a.threads r None there) ∙ filed in cc)
+      by : (r : ℕ) (f : Filing Where OrderKey) → filings (place_filing a.version) a.threads r ≡ Some f → f.node ≡ node → (q : Option (Standing (Single GuestThread))) → place_at a.threads r ≡ q → g.node.index ≡ node
+      by r f filed at None there = absurd (let none = sym (filings_at (place_filing a.version) a.threads r None there) ∙ filed in cc)
       by r f filed at (Some q) there =
-          let says = same_Some (record { node = q.entry.item.node.index; key = where_at q.entry.item.instance q.entry.item.barred q.entry.item.thread.place; value = thread_order_key r q.entry.item }) f (sym (filings_at place_filing a.threads r (Some q) there) ∙ filed) in
+          let says = same_Some (record { node = q.entry.item.node.index; key = where_at q.entry.item.instance q.entry.item.barred q.entry.item.thread.place; value = thread_order_key a.version r q.entry.item }) f (sym (filings_at (place_filing a.version) a.threads r (Some q) there) ∙ filed) in
           let is_value : f.value ≡ v = value f (option_and_then (place_chain (bare (parts_of a))) f.key) (sym ((places_filed a sound).has_link r f filed) ∙ (ap (link_of a.places) at ∙ link)) in
           let place : r ≡ v.place = ap (λ (x : Filing Where OrderKey). x.value.place) says ∙ ap (λ (s : OrderKey). s.place) is_value in
           let number : q.entry.item.number ≡ of_node a node = sym (ap (number_in_link (at_order_key a)) link ∙ (ap (at_place a) (sym place) ∙ ap (λ o. number_in (key_in thread_key o)) there)) in

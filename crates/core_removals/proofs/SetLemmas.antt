@@ -112,10 +112,10 @@ module _ (a : CoreParts) (sound : IsSoundCore a) (id : TableId SetKey) (g : Wait
     set_removed = record a { sets = deleted id.rep a.sets; places = places; ready_calls = ready_calls; ready_works = ready_works; kept = record a.kept { used = a.kept.used - 1 } }
 
     home_left : (h : GuestThread) → HasHome (bare (parts_of a)) h → HasHome (bare (parts_of set_removed)) h
-    home_left h home = record { call = home.call; there = home.there; instance = home.instance; barred = home.barred; within = home.within; place = named_left (kinds (bare (parts_of a))) (kinds gone) left _ _ home.place; op_progress = named_left (kinds (bare (parts_of a))) (kinds gone) left _ _ home.op_progress }
+    home_left h home = record { call = home.call; there = home.there; instance = home.instance; barred = home.barred; waits = home.waits; within = home.within; place = named_left (kinds (bare (parts_of a))) (kinds gone) left _ _ home.place; op_progress = named_left (kinds (bare (parts_of a))) (kinds gone) left _ _ home.op_progress }
 
     call_left : (c : GuestTask) → IsCallNamed (bare (parts_of a)) c → IsCallNamed (bare (parts_of set_removed)) c
-    call_left c named = record { caller = named_left (kinds (bare (parts_of a))) (kinds gone) left _ _ named.caller; first = named_left (kinds (bare (parts_of a))) (kinds gone) left c.first (ThreadOf c.number) named.first; join = named_left (kinds (bare (parts_of a))) (kinds gone) left _ _ named.join; group = named.group; positive = named.positive }
+    call_left c named = record { caller = named_left (kinds (bare (parts_of a))) (kinds gone) left _ _ named.caller; first = named_left (kinds (bare (parts_of a))) (kinds gone) left c.first (ThreadOf c.number) named.first; join = named_left (kinds (bare (parts_of a))) (kinds gone) left _ _ named.join; group = named.group; positive = named.positive; waits = named.waits }
 
     work_left : (w : WorkRecord) → IsWorkNamed (bare (parts_of a)) w → IsWorkNamed (bare (parts_of set_removed)) w
     work_left w named = record { caller = named_left (kinds (bare (parts_of a))) (kinds gone) left _ _ named.caller; join = named_left (kinds (bare (parts_of a))) (kinds gone) left _ _ named.join; group = named.group }
@@ -131,6 +131,7 @@ module _ (a : CoreParts) (sound : IsSoundCore a) (id : TableId SetKey) (g : Wait
       };
       chained = record {
         places = IsIndex-shut (place_chain (bare (parts_of a))) (place_chain gone) a.places places (WaitsOn g.number) g.waiters under_waiters no_waiters waits_else waiters_shut _ whole.chained.places;
+        waits = whole.chained.waits;
         ready_calls = IsIndex-shut (ready_call_chain (bare (parts_of a))) (ready_call_chain gone) a.ready_calls ready_calls g.number g.ready_calls under_calls no_calls calls_else calls_shut _ whole.chained.ready_calls;
         ready_works = IsIndex-shut (ready_work_chain (bare (parts_of a))) (ready_work_chain gone) a.ready_works ready_works g.number g.ready_works under_works no_works works_else works_shut _ whole.chained.ready_works;
         polled = whole.chained.polled;

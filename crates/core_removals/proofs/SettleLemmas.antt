@@ -80,7 +80,7 @@ module _ (p : CoreImage) (whole : IsWhole p) (made made_calls made_works : ℕ) 
 
     module _ (used : kept.used + cond (nat_lt p.finished r.number) 1 0 ≡ p.kept.used) (groups : kept.groups + cond (nat_lt p.finished r.number) 1 0 ≡ p.kept.groups) (live : kept.live ≡ p.kept.live) where
       home_left : (g : GuestThread) → HasHome p g → HasHome less g
-      home_left g h = record { call = h.call; there = h.there; instance = h.instance; barred = h.barred; within = h.within; place = h.place; op_progress = h.op_progress }
+      home_left g h = record { call = h.call; there = h.there; instance = h.instance; barred = h.barred; waits = h.waits; within = h.within; place = h.place; op_progress = h.op_progress }
 
       counted_left : AreCounted less
       unfolding table_use
@@ -105,11 +105,11 @@ module _ (p : CoreImage) (whole : IsWhole p) (made made_calls made_works : ℕ) 
       less_whole = record {
         named = record {
           threads = λ s q at. home_left q.entry.item (whole.named.threads s q at);
-          calls = λ s q at. let one = whole.named.calls s q at in record { caller = one.caller; first = one.first; join = one.join; group = at_other q.entry.item.group q.entry.item.call.group (call_else s q at) one.group; positive = one.positive };
+          calls = λ s q at. let one = whole.named.calls s q at in record { caller = one.caller; first = one.first; join = one.join; group = at_other q.entry.item.group q.entry.item.call.group (call_else s q at) one.group; positive = one.positive; waits = one.waits };
           works = λ s q at. let one = whole.named.works s q at in record { caller = one.caller; join = one.join; group = λ n has. let two = one.group n has in (at_other q.entry.item.group n (work_else s q at n has) two.0, two.1) };
           switch = whole.named.switch;
         };
-        chained = record { places = whole.chained.places; ready_calls = whole.chained.ready_calls; ready_works = whole.chained.ready_works; polled = whole.chained.polled; rising = whole.chained.rising; marks = whole.chained.marks; instance_queues = whole.chained.instance_queues; low = whole.chained.low; behind = whole.chained.behind };
+        chained = record { places = whole.chained.places; waits = whole.chained.waits; ready_calls = whole.chained.ready_calls; ready_works = whole.chained.ready_works; polled = whole.chained.polled; rising = whole.chained.rising; marks = whole.chained.marks; instance_queues = whole.chained.instance_queues; low = whole.chained.low; behind = whole.chained.behind };
         nodes = record { marks = whole.nodes.marks; instance_queues = whole.nodes.instance_queues; callers = whole.nodes.callers; works = whole.nodes.works; apart = whole.nodes.apart };
         counted = counted_left;
       }

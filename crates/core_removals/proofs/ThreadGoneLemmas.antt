@@ -1,5 +1,5 @@
 -- Parts without one thread, which is in no list: they are whole.
-use Rattle.core_records.proofs.Core.{ap, AreChained, AreCounted, arith, BlockedOn, Bool, Call, call_instance, call_key, callers_chain, callers_row, cases_eq, chained, cond, core_of, deleted, Each, EachEntry, Entry, entry_of, entry_keyed, eq-eqb, false, filings, filter, follower, FreeNode, get, get-records, HasHome, HaveRowNodes, HeldIn, High, IfSome, inl, inr, is_entry_of, is_in_set, is_of_group, is_of_instance, IsCallKept, IsCallNamed, IsFollower, IsIndex-same, IsOfThread, IsRows, IsRows-same, IsKeyed, IsWhole, IsWorkNamed, item_at, item_of, keeps_set, kinds, List, list_any, Low, no_callee, None, Ok, one_if_passes, Option, option_map_or, part, CoreImage, passing, passing-with_at, place_at, place_chain, place_filing, Placed, ready_call, ready_call_chain, Records, refl, remove, Renames, Row, row, row_chain, same_map, instance_queue_chain, size, Some, SoundTable, Spot, subst, Subtask, sym, Table, table_use, Thread, thread_entry, thread_key, ThreadOf, threads_of, UnderOf, Unmade, values_are, WaitsOn, Where, where_at, Work, ℕ, ◌+◌, ◌==◌, ◌∙◌, ◌≡◌, ◌⊎◌, StartsIn, is_sync, not, ◌||◌, ExportKind}
+use Rattle.core_records.proofs.Core.{ap, AreChained, AreCounted, arith, BlockedOn, Bool, Call, call_instance, call_key, callers_chain, callers_row, cases_eq, chained, cond, core_of, deleted, Each, EachEntry, Entry, entry_of, entry_keyed, eq-eqb, false, filings, filter, follower, FreeNode, get, get-records, HasHome, HaveRowNodes, HeldIn, High, IfSome, inl, inr, is_entry_of, is_in_set, is_of_group, is_of_instance, IsCallKept, IsCallNamed, IsFollower, IsIndex-same, IsOfThread, IsRows, IsRows-same, IsKeyed, IsWhole, IsWorkNamed, item_at, item_of, keeps_set, kinds, List, list_any, Low, no_callee, None, Ok, one_if_passes, Option, option_map_or, part, CoreImage, passing, passing-with_at, place_at, place_chain, place_filing, Placed, ready_call, ready_call_chain, Records, refl, remove, Renames, Row, row, row_chain, same_map, instance_queue_chain, size, Some, SoundTable, Spot, subst, Subtask, sym, Table, table_use, Thread, thread_entry, thread_key, ThreadOf, threads_of, UnderOf, Unmade, values_are, WaitsOn, Where, where_at, Work, ℕ, ◌+◌, ◌==◌, ◌∙◌, ◌≡◌, ◌⊎◌, StartsIn, is_sync, not, ◌||◌, ExportKind, Filing, filings-deleted_here, filings-deleted_other, filings_at, IsIndex, IsIndex-same_chains, option_and_then, option_map, wait_chain, wait_filing, waits_in}
 use Rattle.core_records.specs.declared.{call_records.GuestTask.GuestTask, parts.CachedCounts.CachedCounts, single.Single.Single, thread_records.Follower.Follower, thread_records.GuestThread.GuestThread, thread_records.Queued.Queued, work_records.WorkRecord.WorkRecord}
 use Rattle.core_places.proofs.AlikeLemmas.{filings_alike, found_alike, number_alike, place_alike, stands_alike}
 use Rattle.core_places.proofs.FiledLemmas.{kept_under}
@@ -10,12 +10,14 @@ use Rattle.core_removals.proofs.GoneLemmas.{Each-but, IsIndex-gone, IsIndex-shut
 use Rattle.core_removals.proofs.LeftLemmas.{Leaves, named_left}
 use Rattle.core_removals.proofs.LessLemmas.{found_gone, found_still, one_fewer, placed_before}
 use Rattle.core_removals.proofs.OrderKeyGoneLemmas.{nodes_left, renamed_made, keyed_left}
-use Rattle.core_removals.specs.Chains.{Closes, Drops}
+use Rattle.core_removals.specs.Chains.{Closes, Drops, DropsIf}
 use Rattle.core_removals.specs.Counted.{unthreaded}
 use Rattle.core_records.proofs.KindLemmas.{item_number, item_read, item_stands}
 use Rattle.core_records.proofs.MakeLemmas.{records_less, stands_less}
 use Rattle.table_lists.specs.declared.ordered_lists.OrderKey.{OrderKey}
-use Rattle.core_records.specs.RecordPlaces.{thread_order_key}
+use Rattle.core_records.specs.RecordPlaces.{member_order_key, thread_order_key}
+use Rattle.table_links.specs.declared.links.Node.{Node}
+use Rattle.core_records.specs.Names.{keeps_waits}
 
 abbrev number : GuestThread → ℕ
 number g = g.number
@@ -32,9 +34,9 @@ module _ (p : CoreImage) (whole : IsWhole p) (made : ℕ) (sound : SoundTable th
 
   -- ---- The parts without it, with one thread less of its call
 
-  module _ (calls : Table (Single GuestTask)) (alike : Alike unthreaded calls p.calls) (places : List (Spot OrderKey)) (marks instance_queues : List (Spot Queued)) (behind : List (Spot Follower)) (kept : CachedCounts) where
+  module _ (calls : Table (Single GuestTask)) (alike : Alike unthreaded calls p.calls) (places waits : List (Spot OrderKey)) (marks instance_queues : List (Spot Queued)) (behind : List (Spot Follower)) (kept : CachedCounts) where
     abbrev pub less : CoreImage
-    less = record p { threads = deleted rep p.threads; calls = calls; places = places; marks = marks; instance_queues = instance_queues; behind = behind; kept = kept }
+    less = record p { threads = deleted rep p.threads; calls = calls; places = places; waits = waits; marks = marks; instance_queues = instance_queues; behind = behind; kept = kept }
 
     -- what is counted of its threads
     one_less : (test : Thread → Bool) → passing test (core_of less).threads + one_if_passes test (Some g.thread) ≡ passing test (core_of p).threads
@@ -69,6 +71,7 @@ module _ (p : CoreImage) (whole : IsWhole p) (made : ℕ) (sound : SoundTable th
       there = home.there;
       instance = instance_same h.thread.call ∙ home.instance;
       barred = ap (λ (m : Records Call). not (h.thread.explicit || is_sync (option_map_or (λ (d : Call). d.kind) (get m h.thread.call) ExportKind.Callback))) calls_same ∙ home.barred;
+      waits = ap (λ (m : Records Call). keeps_waits p.version (option_map_or (λ (d : Call). d.kind) (get m h.thread.call) ExportKind.Callback)) calls_same ∙ home.waits;
       within = home.within;
       place = named_left (kinds p) (kinds less) left h.state_target _ home.place;
       op_progress = named_left (kinds p) (kinds less) left h.op_target _ home.op_progress;
@@ -76,9 +79,9 @@ module _ (p : CoreImage) (whole : IsWhole p) (made : ℕ) (sound : SoundTable th
 
     call_left : (x y : GuestTask) → unthreaded x ≡ unthreaded y → IsCallNamed p x → IsCallNamed less y
     call_left x y same named =
-        let bare : IsCallNamed less (unthreaded x) = record { caller = named_left (kinds p) (kinds less) left x.maker _ named.caller; first = named_left (kinds p) (kinds less) left x.first (ThreadOf x.number) named.first; join = named_left (kinds p) (kinds less) left x.joined _ named.join; group = named.group; positive = named.positive } in
+        let bare : IsCallNamed less (unthreaded x) = record { caller = named_left (kinds p) (kinds less) left x.maker _ named.caller; first = named_left (kinds p) (kinds less) left x.first (ThreadOf x.number) named.first; join = named_left (kinds p) (kinds less) left x.joined _ named.join; group = named.group; positive = named.positive; waits = named.waits } in
         let one : IsCallNamed less (unthreaded y) = subst (IsCallNamed less) same bare in
-        record { caller = one.caller; first = one.first; join = one.join; group = one.group; positive = one.positive }
+        record { caller = one.caller; first = one.first; join = one.join; group = one.group; positive = one.positive; waits = one.waits }
 
     work_left : (w : WorkRecord) → IsWorkNamed p w → IsWorkNamed less w
     work_left w named = record { caller = named_left (kinds p) (kinds less) left w.maker _ named.caller; join = named_left (kinds p) (kinds less) left w.joined _ named.join; group = named.group }
@@ -120,7 +123,7 @@ module _ (p : CoreImage) (whole : IsWhole p) (made : ℕ) (sound : SoundTable th
     ]
 
     module _ (unqueued : (r : Row) → list_any (λ (q : Queued). is_entry_of g.number q.entry) (row p r) ≡ false) (not_behind : (n : ℕ) → list_any (λ (f : Follower). g.number == f.number) (callers_row p n) ≡ false) (not_switch : (f : Follower) → p.switch ≡ Some f → (g.number == f.number) ≡ false) (unkept : (x : ℕ) → keeps_set x g.thread g.thread.place ≡ false) where
-      module _ (middle : List (Spot OrderKey)) (shut : Closes p.places middle g.under) (node_out : Drops middle places g.node.index) (mark_out : Renames p.marks marks g.mark.index FreeNode Unmade) (instance_queue_out : Renames p.instance_queues instance_queues g.instance_queue.index FreeNode Unmade) (middle_behind : List (Spot Follower)) (callers_shut : Closes p.behind middle_behind g.callers) (caller_out : Renames middle_behind behind g.caller.index FreeNode Unmade) where
+      module _ (middle : List (Spot OrderKey)) (shut : Closes p.places middle g.under) (node_out : Drops middle places g.node.index) (wait_out : DropsIf p.waits waits g.wait) (mark_out : Renames p.marks marks g.mark.index FreeNode Unmade) (instance_queue_out : Renames p.instance_queues instance_queues g.instance_queue.index FreeNode Unmade) (middle_behind : List (Spot Follower)) (callers_shut : Closes p.behind middle_behind g.callers) (caller_out : Renames middle_behind behind g.caller.index FreeNode Unmade) where
         marks_left : IsRows (row_chain p) (λ q. q.mark.index) (IsKeyed less) marks (row p)
         marks_left =
             let rows = IsRows-dropped (row_chain p) (λ q. q.mark.index) (IsKeyed p) p.marks (row p) whole.chained.marks marks g.mark.index mark_out in
@@ -149,11 +152,38 @@ module _ (p : CoreImage) (whole : IsWhole p) (made : ℕ) (sound : SoundTable th
         pub callers_left : (n c : ℕ) → callers_chain less n ≡ Some c → callers_row less n ≡ callers_row p n
         callers_left n c at = ap (chained behind) at ∙ values_are (callers_chain less) (λ f. f.node.index) (IsFollower less) behind (callers_row p) behind_left n c at
 
+        waits_same : (k : ℕ) → wait_chain less k ≡ wait_chain p k
+        waits_same k = ap (option_and_then (λ c. c)) (found_alike unthreaded calls p.calls alike (λ (c : GuestTask). c.number) (λ c. refl) (λ (c : GuestTask). c.waits) (λ c. refl) k)
+
+        abbrev wait_was : Node → Filing ℕ OrderKey
+        wait_was node = record {
+          node = node.index;
+          key = waits_in stands.0.entry.item.thread.place stands.0.entry.item.thread.call;
+          value = member_order_key stands.0.entry.item.entry rep;
+        }
+
+        said_wait : (w : Option Node) → g.wait ≡ w → wait_filing rep stands.0.serial stands.0.entry ≡ option_map wait_was w
+        said_wait w at = ap (option_map wait_was) (ap (λ (e : Single GuestThread). e.item.wait) stands.1.1.1 ∙ at)
+
+        waits_kept : IsIndex (wait_chain p) waits (filings wait_filing (deleted rep p.threads))
+        waits_kept = by g.wait refl
+          where
+            by : (w : Option Node) → g.wait ≡ w → IsIndex (wait_chain p) waits (filings wait_filing (deleted rep p.threads))
+            by None none =
+                let same : waits ≡ p.waits = subst (DropsIf p.waits waits) none wait_out in
+                subst (λ (ws : List (Spot OrderKey)). IsIndex (wait_chain p) ws (filings wait_filing (deleted rep p.threads))) (sym same)
+                (IsIndex-same (wait_chain p) p.waits (filings wait_filing p.threads) whole.chained.waits (filings wait_filing (deleted rep p.threads)) (λ r. elim (cases_eq r rep) [
+                  | inl here ↦ ap (filings wait_filing (deleted rep p.threads)) here ∙ (filings-deleted_here wait_filing p.threads rep ∙ sym (ap (filings wait_filing p.threads) here ∙ (filings_at wait_filing p.threads rep (Some stands.0) stands.1.0 ∙ said_wait None none)))
+                  | inr other ↦ filings-deleted_other wait_filing p.threads rep r other
+                ]))
+            by (Some node) some = IsIndex-gone wait_filing (wait_chain p) p.threads rep stands.0 stands.1.0 (wait_was node) (said_wait (Some node) some) p.waits waits (subst (DropsIf p.waits waits) some wait_out) whole.chained.waits
+
         chained_left : AreChained less
         chained_left = record {
-          places = IsIndex-gone place_filing (place_chain less) p.threads rep stands.0 stands.1.0 (record { node = stands.0.entry.item.node.index; key = where_at stands.0.entry.item.instance stands.0.entry.item.barred stands.0.entry.item.thread.place; value = thread_order_key rep stands.0.entry.item }) refl middle places
+          places = IsIndex-gone (place_filing p.version) (place_chain less) p.threads rep stands.0 stands.1.0 (record { node = stands.0.entry.item.node.index; key = where_at stands.0.entry.item.instance stands.0.entry.item.barred stands.0.entry.item.thread.place; value = thread_order_key p.version rep stands.0.entry.item }) refl middle places
               (subst (λ (e : Single GuestThread). Drops middle places e.item.node.index) (sym stands.1.1.1) node_out)
-              (IsIndex-shut (place_chain p) (place_chain less) p.places middle (UnderOf g.number) g.under under_is (found_gone number machine p.threads made sound rep serial g is (λ (x : GuestThread). x.under)) place_else shut (filings place_filing p.threads) whole.chained.places);
+              (IsIndex-shut (place_chain p) (place_chain less) p.places middle (UnderOf g.number) g.under under_is (found_gone number machine p.threads made sound rep serial g is (λ (x : GuestThread). x.under)) place_else shut (filings (place_filing p.version) p.threads) whole.chained.places);
+          waits = IsIndex-same_chains (wait_chain p) waits (filings wait_filing (deleted rep p.threads)) waits_kept (wait_chain less) waits_same;
           ready_calls = IsIndex-same (ready_call_chain p) p.ready_calls _ whole.chained.ready_calls (filings ready_call calls) (filings_alike unthreaded ready_call (λ r s x. refl) calls p.calls alike);
           ready_works = whole.chained.ready_works;
           polled = whole.chained.polled;

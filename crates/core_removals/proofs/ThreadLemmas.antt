@@ -3,7 +3,7 @@ use Rattle.core_queues.proofs.SeatLemmas.{seats_less}
 use Rattle.core_records.specs.Keys.{call_seat_key}
 use Rattle.machine_data.specs.Maps.{get}
 use Rattle.machine_rules.specs.Picks.{ThreadSeat}
-use Rattle.core_records.proofs.Core.{[], ap, ap₂, AreHandlesNamed, arith, bare, bare_call, bare_thread, Bool, Call, call_key, call_number, callers_chain, callers_in, callers_of, callers_row, cases_eq, chained, cond, Core, core_of, deleted, Each, EachEntry, Entry, entry_of, eq-eqb, Err, false, filings_at, follower, FreeNode, get, get-change_same, get-remove, GuestTaskKey, High, inl, inr, is_entry_of, is_free, is_made, IsApart, IsBehindNobody, IsCallKept, IsLinks, IsSome, IsSoundCore, IsTable, IsWhole, item_at, item_of, keeps_set, KeepsBut, kinds, List, list_any, list_of, loose_call, loose_thread, lost_thread, Low, map, mapped, mapped-deleted, mapped-with_entry, ne_eqb, None, Ok, on_item, on_thread, one_if, Option, option_map, OwnsHandle, CoreImage, parts_of, passing, Place, place_at, place_filing, place_of, Placed, Records, records, refl, remove, remove-change_same, remove_thread, Renames, ResourceTableError, Result, Row, row, same_map, same_Some, seen, set_number, set_place, slice_get, Some, SoundTable, Spot, subst, switch_entries, sym, Table, table_use, TableId, Tag, Thread, thread_entry, thread_key, thread_of, ThreadKey, threads_of, times, true, UnderOf, uninterested, Unmade, values, with_entry, work_number, ℕ, ◌+◌, ◌-◌, ◌⊎◌, ◌<◌, ◌==◌, ◌||◌, ◌∙◌, ◌∷◌, ◌≡◌, ◌≤◌}
+use Rattle.core_records.proofs.Core.{[], ap, ap₂, AreHandlesNamed, arith, bare, bare_call, bare_thread, Bool, Call, call_key, call_number, callers_chain, callers_in, callers_of, callers_row, cases_eq, chained, cond, Core, core_of, deleted, Each, EachEntry, Entry, entry_of, eq-eqb, Err, false, filings_at, follower, FreeNode, get, get-change_same, get-remove, GuestTaskKey, High, inl, inr, is_entry_of, is_free, is_made, IsApart, IsBehindNobody, IsCallKept, IsLinks, IsSome, IsSoundCore, IsTable, IsWhole, item_at, item_of, keeps_set, KeepsBut, kinds, List, list_any, list_of, loose_call, loose_thread, lost_thread, Low, map, mapped, mapped-deleted, mapped-with_entry, ne_eqb, None, Ok, on_item, on_thread, one_if, Option, option_map, OwnsHandle, CoreImage, parts_of, passing, Place, place_at, place_filing, place_of, Placed, Records, records, refl, remove, remove-change_same, remove_thread, Renames, ResourceTableError, Result, Row, row, same_map, same_Some, seen, set_number, set_place, slice_get, Some, SoundTable, Spot, subst, switch_entries, sym, Table, table_use, TableId, Tag, Thread, thread_entry, thread_key, thread_of, ThreadKey, threads_of, times, true, UnderOf, uninterested, Unmade, values, with_entry, work_number, ℕ, ◌+◌, ◌-◌, ◌⊎◌, ◌<◌, ◌==◌, ◌||◌, ◌∙◌, ◌∷◌, ◌≡◌, ◌≤◌, Filing, IfSome, wait_filing, waits_in}
 use Rattle.core_records.specs.declared.{call_records.GuestTask.GuestTask, parts.CoreParts.CoreParts, parts.CachedCounts.CachedCounts, single.Single.Single, thread_records.Follower.Follower, thread_records.GuestThread.GuestThread, thread_records.Queued.Queued}
 use Rattle.machine_rules.specs.Places.{entries}
 use Rattle.core_places.proofs.FiledLemmas.{kept_under}
@@ -18,7 +18,7 @@ use Rattle.core_removals.proofs.LeftLemmas.{handles_left}
 use Rattle.core_removals.proofs.LessLemmas.{each_left, found_gone, found_still, one_fewer}
 use Rattle.core_removals.proofs.RewriteLemmas.{each_rewritten, each_there, rewritten_alike}
 use Rattle.core_removals.proofs.ThreadGoneLemmas.{callers_left, left, less, less_whole, row_left, threads_counted}
-use Rattle.core_removals.specs.Chains.{Closes, Drops}
+use Rattle.core_removals.specs.Chains.{Closes, Drops, DropsIf}
 use Rattle.core_removals.specs.Counted.{unthreaded}
 use Rattle.core_records.proofs.KindLemmas.{item_stands, table_written, tags_written}
 use Rattle.core_records.proofs.MakeLemmas.{number_gone, number_left, records_less, table_less}
@@ -26,6 +26,8 @@ use Rattle.core_records.proofs.ReadLemmas.{thread_named, thread_read, thread_sho
 use Rattle.core_records.proofs.TableLemmas.{records_unseen}
 use Rattle.core_primitives.specs.StateView.{named as named_by_tag}
 use Rattle.table_lists.specs.declared.ordered_lists.OrderKey.{OrderKey}
+use Rattle.core_records.specs.RecordPlaces.{member_order_key}
+use Rattle.table_links.specs.declared.links.Node.{Node}
 
 abbrev number : GuestThread → ℕ
 number g = g.number
@@ -96,7 +98,7 @@ module _ (a : CoreParts) (sound : IsSoundCore a) (id : TableId ThreadKey) (g : G
   -- it is one of the threads of its call
   counted_one : c.threads ≡ 1 + (c.threads - 1)
   counted_one =
-      let law = threads_counted bared whole a.made.threads threads_sound id.rep id.serial (bare_thread g) bare_is bare_calls alike a.places a.marks a.instance_queues a.behind a.kept c.number in
+      let law = threads_counted bared whole a.made.threads threads_sound id.rep id.serial (bare_thread g) bare_is bare_calls alike a.places a.waits a.marks a.instance_queues a.behind a.kept c.number in
       let one : cond {A = ℕ} ((bare_thread g).thread.call == c.number) 1 0 ≡ 1 = ap (λ b. cond b 1 0) (eq-eqb g.thread.call c.number (sym of)) in
       let all : c.threads ≡ threads_of c.number (core_of bared) = each_there call_of_number call_machine bared.calls a.made.threads calls_sound task.rep task.serial (bare_call c) bare_is_c (IsCallKept (core_of bared)) whole.counted.calls in
       omega arith
@@ -153,7 +155,22 @@ module _ (a : CoreParts) (sound : IsSoundCore a) (id : TableId ThreadKey) (g : G
     under_live = whole.chained.places.live (UnderOf g.number) g.under (kept_under number machine (λ (x : GuestThread). x.under) bared.threads a.made.threads threads_sound id.rep id.serial (bare_thread g) bare_is)
 
     pub node_made : is_made a.places g.node.index ≡ true
-    node_made = subst (λ (e : Single GuestThread). is_made a.places e.item.node.index ≡ true) bare_stands.1.1.1 (whole.chained.places.made id.rep _ (filings_at place_filing bared.threads id.rep (Some bare_stands.0) bare_stands.1.0))
+    node_made = subst (λ (e : Single GuestThread). is_made a.places e.item.node.index ≡ true) bare_stands.1.1.1 (whole.chained.places.made id.rep _ (filings_at (place_filing a.version) bared.threads id.rep (Some bare_stands.0) bare_stands.1.0))
+
+    pub wait_made : IfSome g.wait (λ node. is_made a.waits node.index ≡ true)
+    wait_made = by g.wait refl
+      where
+        was : Node → Filing ℕ OrderKey
+        was node = record {
+          node = node.index;
+          key = waits_in bare_stands.0.entry.item.thread.place bare_stands.0.entry.item.thread.call;
+          value = member_order_key bare_stands.0.entry.item.entry id.rep;
+        }
+
+        by : (w : Option Node) → g.wait ≡ w → IfSome w (λ node. is_made a.waits node.index ≡ true)
+        by None none = tt
+        by (Some node) some = whole.chained.waits.made id.rep (was node)
+            (filings_at wait_filing bared.threads id.rep (Some bare_stands.0) bare_stands.1.0 ∙ ap (option_map was) (ap (λ (e : Single GuestThread). e.item.wait) bare_stands.1.1.1 ∙ some))
 
     pub callers_live : IsSome (list_of a.behind g.callers)
     callers_live = whole.chained.behind.live g.number g.callers (kept_under number machine (λ (x : GuestThread). x.callers) bared.threads a.made.threads threads_sound id.rep id.serial (bare_thread g) bare_is)
@@ -169,21 +186,21 @@ module _ (a : CoreParts) (sound : IsSoundCore a) (id : TableId ThreadKey) (g : G
 
     -- ---- It is gone
 
-    module _ (middle places : List (Spot OrderKey)) (shut : Closes a.places middle g.under) (node_out : Drops middle places g.node.index) (marks : List (Spot Queued)) (mark_out : Renames a.marks marks g.mark.index FreeNode Unmade) (instance_queues : List (Spot Queued)) (instance_queue_out : Renames a.instance_queues instance_queues g.instance_queue.index FreeNode Unmade) (middle_behind behind : List (Spot Follower)) (callers_shut : Closes a.behind middle_behind g.callers) (caller_out : Renames middle_behind behind g.caller.index FreeNode Unmade) where
+    module _ (middle places : List (Spot OrderKey)) (shut : Closes a.places middle g.under) (node_out : Drops middle places g.node.index) (waits : List (Spot OrderKey)) (wait_out : DropsIf a.waits waits g.wait) (marks : List (Spot Queued)) (mark_out : Renames a.marks marks g.mark.index FreeNode Unmade) (instance_queues : List (Spot Queued)) (instance_queue_out : Renames a.instance_queues instance_queues g.instance_queue.index FreeNode Unmade) (middle_behind behind : List (Spot Follower)) (callers_shut : Closes a.behind middle_behind g.callers) (caller_out : Renames middle_behind behind g.caller.index FreeNode Unmade) where
       abbrev pub thread_removed : CoreParts
-      thread_removed = record a { threads = deleted id.rep a.threads; calls = calls_less; places = places; marks = marks; instance_queues = instance_queues; behind = behind; kept = record a.kept { used = a.kept.used - 2 } }
+      thread_removed = record a { threads = deleted id.rep a.threads; calls = calls_less; places = places; waits = waits; marks = marks; instance_queues = instance_queues; behind = behind; kept = record a.kept { used = a.kept.used - 2 } }
 
       abbrev bare_kept : CachedCounts
       bare_kept = record a.kept { used = a.kept.used - 2; interesting = 0; moving = 0 }
 
       abbrev gone : CoreImage
-      gone = less bared whole a.made.threads threads_sound id.rep id.serial (bare_thread g) bare_is bare_calls alike places marks instance_queues behind bare_kept
+      gone = less bared whole a.made.threads threads_sound id.rep id.serial (bare_thread g) bare_is bare_calls alike places waits marks instance_queues behind bare_kept
 
       bare_gone : bare (parts_of thread_removed) ≡ gone
       bare_gone = ap (λ (t : Table (Single GuestThread)). record gone { threads = t }) (mapped-deleted (on_item bare_thread) a.threads id.rep)
 
       counted : (k : ℕ) → threads_of k (core_of gone) + cond (g.thread.call == k) 1 0 ≡ threads_of k (core_of bared)
-      counted = threads_counted bared whole a.made.threads threads_sound id.rep id.serial (bare_thread g) bare_is bare_calls alike places marks instance_queues behind bare_kept
+      counted = threads_counted bared whole a.made.threads threads_sound id.rep id.serial (bare_thread g) bare_is bare_calls alike places waits marks instance_queues behind bare_kept
 
       calls_kept : EachEntry (IsCallKept (core_of gone)) bare_calls
       calls_kept =
@@ -205,7 +222,7 @@ module _ (a : CoreParts) (sound : IsSoundCore a) (id : TableId ThreadKey) (g : G
       gone_whole : IsWhole gone
       gone_whole =
           let all = thread_counted in
-          less_whole bared whole a.made.threads threads_sound id.rep id.serial (bare_thread g) bare_is bare_calls alike places marks instance_queues behind bare_kept unqueued not_behind not_switch unkept middle shut node_out mark_out instance_queue_out middle_behind callers_shut caller_out (omega arith) refl refl calls_kept
+          less_whole bared whole a.made.threads threads_sound id.rep id.serial (bare_thread g) bare_is bare_calls alike places waits marks instance_queues behind bare_kept unqueued not_behind not_switch unkept middle shut node_out wait_out mark_out instance_queue_out middle_behind callers_shut caller_out (omega arith) refl refl calls_kept
 
       calls_map : records call_key calls_less.places ≡ records call_key a.calls.places
       unfolding IsSoundCore
@@ -226,7 +243,7 @@ module _ (a : CoreParts) (sound : IsSoundCore a) (id : TableId ThreadKey) (g : G
         whole = subst IsWhole (sym bare_gone) gone_whole;
         interesting = sound.interesting ∙ ap (passing (λ (x : Call). x.interesting)) (sym calls_map);
         moving = sound.moving;
-        handles = λ i r at. subst (λ (q : CoreImage). AreHandlesNamed (kinds q) r) (sym bare_gone) (handles_left (kinds bared) (kinds gone) (left bared whole a.made.threads threads_sound id.rep id.serial (bare_thread g) bare_is bare_calls alike places marks instance_queues behind bare_kept) r (sound.handles i r at));
+        handles = λ i r at. subst (λ (q : CoreImage). AreHandlesNamed (kinds q) r) (sym bare_gone) (handles_left (kinds bared) (kinds gone) (left bared whole a.made.threads threads_sound id.rep id.serial (bare_thread g) bare_is bare_calls alike places waits marks instance_queues behind bare_kept) r (sound.handles i r at));
         owned = each_left number machine a.threads a.made.threads sound.tables.threads id.rep id.serial g is (OwnsHandle (parts_of a)) sound.owned;
         live = sound.live;
         ended = sound.ended;
@@ -250,7 +267,7 @@ module _ (a : CoreParts) (sound : IsSoundCore a) (id : TableId ThreadKey) (g : G
           by : (o : Option ℕ) → callers_chain gone m ≡ o → callers_chain gone m ≡ callers_chain bared m → option_map (numbers_in behind) (callers_chain gone m) ≡ option_map (numbers_in a.behind) (callers_chain bared m)
           by None at still = ap (option_map (numbers_in behind)) at ∙ ap (option_map (numbers_in a.behind)) (sym at ∙ still)
           by (Some k) at still =
-              let row : callers_row gone m ≡ callers_row bared m = callers_left bared whole a.made.threads threads_sound id.rep id.serial (bare_thread g) bare_is bare_calls alike places marks instance_queues behind bare_kept unqueued not_behind not_switch unkept middle shut node_out mark_out instance_queue_out middle_behind callers_shut caller_out m k at in
+              let row : callers_row gone m ≡ callers_row bared m = callers_left bared whole a.made.threads threads_sound id.rep id.serial (bare_thread g) bare_is bare_calls alike places waits marks instance_queues behind bare_kept unqueued not_behind not_switch unkept middle shut node_out wait_out mark_out instance_queue_out middle_behind callers_shut caller_out m k at in
               let same : values behind k ≡ values a.behind k = sym (ap (chained behind) at) ∙ (row ∙ ap (chained a.behind) (sym still ∙ at)) in
               ap (option_map (numbers_in behind)) at ∙ (ap (λ (l : List Follower). Some (numbers_of l)) same ∙ ap (option_map (numbers_in a.behind)) (sym at ∙ still))
 
@@ -263,7 +280,7 @@ module _ (a : CoreParts) (sound : IsSoundCore a) (id : TableId ThreadKey) (g : G
           ∙ sym (get-remove (records (callers_in a.behind) a.threads.places) (thread_of (seen a) id) m)))))
 
       rule_same : (r : Row) → row gone r ≡ row bared r
-      rule_same = row_left bared whole a.made.threads threads_sound id.rep id.serial (bare_thread g) bare_is bare_calls alike places marks instance_queues behind bare_kept unqueued not_behind not_switch unkept middle shut node_out mark_out instance_queue_out middle_behind callers_shut caller_out
+      rule_same = row_left bared whole a.made.threads threads_sound id.rep id.serial (bare_thread g) bare_is bare_calls alike places waits marks instance_queues behind bare_kept unqueued not_behind not_switch unkept middle shut node_out wait_out mark_out instance_queue_out middle_behind callers_shut caller_out
 
       abbrev entries_of : List Queued → List Entry
       entries_of qs = map (λ (q : Queued). q.entry) qs

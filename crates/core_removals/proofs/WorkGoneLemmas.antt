@@ -63,10 +63,10 @@ module _ (p : CoreImage) (whole : IsWhole p) (made : ℕ) (sound : SoundTable wo
     group_left r n at = number_alike uncalled groups p.groups alike (λ (x : TaskGroup). x.number) (λ x. refl) (λ (x : TaskGroup). x.calls) (λ (k : ℕ). 0) (λ x. refl) r ∙ at
 
     home_left : (h : GuestThread) → HasHome p h → HasHome less h
-    home_left h home = record { call = home.call; there = home.there; instance = home.instance; barred = home.barred; within = home.within; place = named_left (kinds p) (kinds less) left h.state_target _ home.place; op_progress = named_left (kinds p) (kinds less) left h.op_target _ home.op_progress }
+    home_left h home = record { call = home.call; there = home.there; instance = home.instance; barred = home.barred; waits = home.waits; within = home.within; place = named_left (kinds p) (kinds less) left h.state_target _ home.place; op_progress = named_left (kinds p) (kinds less) left h.op_target _ home.op_progress }
 
     call_left : (x : GuestTask) → IsCallNamed p x → IsCallNamed less x
-    call_left x named = record { caller = named_left (kinds p) (kinds less) left x.maker _ named.caller; first = named_left (kinds p) (kinds less) left x.first (ThreadOf x.number) named.first; join = named_left (kinds p) (kinds less) left x.joined _ named.join; group = group_left x.group x.call.group named.group; positive = named.positive }
+    call_left x named = record { caller = named_left (kinds p) (kinds less) left x.maker _ named.caller; first = named_left (kinds p) (kinds less) left x.first (ThreadOf x.number) named.first; join = named_left (kinds p) (kinds less) left x.joined _ named.join; group = group_left x.group x.call.group named.group; positive = named.positive; waits = named.waits }
 
     work_left : (w : WorkRecord) → IsWorkNamed p w → IsWorkNamed less w
     work_left w named = record { caller = named_left (kinds p) (kinds less) left w.maker _ named.caller; join = named_left (kinds p) (kinds less) left w.joined _ named.join; group = λ n at. let one = named.group n at in (group_left w.group n one.0, one.1) }
@@ -118,7 +118,8 @@ module _ (p : CoreImage) (whole : IsWhole p) (made : ℕ) (sound : SoundTable wo
 
       chained_left : AreChained less
       chained_left = record {
-        places = IsIndex-shut (place_chain p) (place_chain less) p.places places (BlockedOn (Subtask.Host g.number)) g.blocked blocked_is (found_gone number machine p.works made sound rep serial g is (λ (x : WorkRecord). x.blocked)) place_else shut (filings place_filing p.threads) whole.chained.places;
+        places = IsIndex-shut (place_chain p) (place_chain less) p.places places (BlockedOn (Subtask.Host g.number)) g.blocked blocked_is (found_gone number machine p.works made sound rep serial g is (λ (x : WorkRecord). x.blocked)) place_else shut (filings (place_filing p.version) p.threads) whole.chained.places;
+        waits = whole.chained.waits;
         ready_calls = whole.chained.ready_calls;
         ready_works = IsIndex-gone ready_work (ready_work_chain less) p.works rep stands.0 stands.1.0 (record { node = stands.0.entry.item.ready.index; key = ready_in stands.0.entry.item.work.event stands.0.entry.item.work.join; value = member_order_key stands.0.entry.item.entry rep }) refl p.ready_works ready_works
             (subst (λ (e : Single WorkRecord). Drops p.ready_works ready_works e.item.ready.index) (sym stands.1.1.1) ready_out) whole.chained.ready_works;

@@ -62,10 +62,10 @@ module _ (p : CoreImage) (whole : IsWhole p) (sound : SoundTable work_key p.work
   group_more r n at = number_alike uncalled groups p.groups alike (λ (x : TaskGroup). x.number) (λ x. refl) (λ (x : TaskGroup). x.calls) (λ (k : ℕ). 0) (λ x. refl) r ∙ at
 
   home_more : (h : GuestThread) → HasHome p h → HasHome more h
-  home_more h home = record { call = home.call; there = home.there; instance = home.instance; barred = home.barred; within = home.within; place = at_more h.state_target _ home.place; op_progress = at_more h.op_target _ home.op_progress }
+  home_more h home = record { call = home.call; there = home.there; instance = home.instance; barred = home.barred; waits = home.waits; within = home.within; place = at_more h.state_target _ home.place; op_progress = at_more h.op_target _ home.op_progress }
 
   call_more : (x : GuestTask) → IsCallNamed p x → IsCallNamed more x
-  call_more x named = record { caller = at_more x.maker _ named.caller; first = at_more x.first (ThreadOf x.number) named.first; join = at_more x.joined _ named.join; group = group_more x.group x.call.group named.group; positive = named.positive }
+  call_more x named = record { caller = at_more x.maker _ named.caller; first = at_more x.first (ThreadOf x.number) named.first; join = at_more x.joined _ named.join; group = group_more x.group x.call.group named.group; positive = named.positive; waits = named.waits }
 
   work_more : (w : WorkRecord) → IsWorkNamed p w → IsWorkNamed more w
   work_more w named = record { caller = at_more w.maker _ named.caller; join = at_more w.joined _ named.join; group = λ n at. let one = named.group n at in (group_more w.group n one.0, one.1) }
@@ -103,8 +103,9 @@ module _ (p : CoreImage) (whole : IsWhole p) (sound : SoundTable work_key p.work
 
   chained_more : AreChained more
   chained_more = record {
-    places = IsIndex-opened (place_chain p) (place_chain more) p.places (BlockedOn (Subtask.Host g.number)) (blocked_is g.number) place_others g.blocked has_blocked loose.blocked (filings place_filing p.threads) whole.chained.places
-        (none_in_list (kinds p) p.threads (BlockedOn (Subtask.Host g.number)) (λ rep q at. (whole.named.threads rep q at).place) (λ rep at. let few = at.0 in let is = later in omega arith));
+    places = IsIndex-opened (place_chain p) (place_chain more) p.places (BlockedOn (Subtask.Host g.number)) (blocked_is g.number) place_others g.blocked has_blocked loose.blocked (filings (place_filing p.version) p.threads) whole.chained.places
+        (none_in_list p.version (kinds p) p.threads (BlockedOn (Subtask.Host g.number)) (λ rep q at. (whole.named.threads rep q at).place) (λ rep at. let few = at.0 in let is = later in omega arith));
+    waits = whole.chained.waits;
     ready_calls = whole.chained.ready_calls;
     ready_works = index_more p.works g sound.table (λ h. h.ready.index) (λ h. ready_in h.work.event h.work.join) (λ r h. member_order_key h.entry r) p.ready_works loose.ready (ready_work_chain p) whole.chained.ready_works (ap (λ (e : Option Status). ready_in e g.work.join) next.event);
     polled = index_more p.works g sound.table (λ h. h.live.index) (λ h. cond (is_stage_live h.work.stage) (Some tt) None) live_value p.polled loose.live (live_chain p) whole.chained.polled (ap (λ b. cond b (Some tt) None) not_live);

@@ -1,6 +1,7 @@
 -- What the end of a chain, or of a node, leaves of the links.
 use Rattle.std.specs.Prelude.{◌≡◌, ◌==◌, ℕ, true, Option, None, Some, IsSome, List, if◌then◌else◌}
 use Rattle.table_links.specs.Links.{Spot, is_made, link_of, list_of}
+use Rattle.table_links.specs.declared.links.Node.{Node}
 
 -- a link, unless it is to this chain
 abbrev pub link_but : {P : Type 0} → ℕ → Option (ℕ × P) → Option (ℕ × P)
@@ -26,3 +27,13 @@ pub record Drops {P : Type 0} (old new : List (Spot P)) (node : ℕ) : Type 0 wh
   pub links : (n : ℕ) → (n ≡ node → ⊥) → link_of new n ≡ link_of old n
   pub made : (n : ℕ) → (n ≡ node → ⊥) → is_made old n ≡ true → is_made new n ≡ true
   pub live : (c : ℕ) → IsSome (list_of old c) → IsSome (list_of new c)
+
+-- a chain is gone, if there is one
+abbrev pub ClosesIf : {P : Type 0} → (old new : List (Spot P)) → Option ℕ → Type 0
+ClosesIf old new None = new ≡ old
+ClosesIf old new (Some chain) = Closes old new chain
+
+-- a node is gone, if there is one
+abbrev pub DropsIf : {P : Type 0} → (old new : List (Spot P)) → Option Node → Type 0
+DropsIf old new None = new ≡ old
+DropsIf old new (Some node) = Drops old new node.index

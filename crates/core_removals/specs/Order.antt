@@ -13,7 +13,7 @@ use Rattle.core_records.specs.declared.parts.CoreParts.{CoreParts}
 -- the thread m doesn't come before the thread n
 abbrev pub NotBefore : CoreParts → ℕ → ℕ → Type 0
 NotBefore a n m =
-    EachEntry (λ g. g.number ≡ n → EachEntry (λ h. h.number ≡ m → is_lt (thread_order h g) ≡ false) a.threads) a.threads
+    EachEntry (λ g. g.number ≡ n → EachEntry (λ h. h.number ≡ m → is_lt (thread_order a.version h g) ≡ false) a.threads) a.threads
 
 -- no thread of the list comes before one that is earlier in it
 abbrev pub AreInOrder : CoreParts → List ℕ → Type 0

@@ -13,7 +13,7 @@ ghost use Rattle.task_table.specs.Records.{number_of};
 ghost use Rattle.core_primitives.specs.StateView.{call_of};
 ghost use Rattle.core_primitives.specs.Records.{LosesCallBy, call_deleted};
 
-use crate::chains_removals::{close_order_keys, drop_order_key};
+use crate::chains_removals::{close_order_keys, close_waits, drop_order_key};
 use crate::group_removals::{group_unchecked, one_if, settle_counted};
 use core_counts::close_room;
 use core_places::set_join;
@@ -44,6 +44,7 @@ fn drop_call(parts: &mut CoreParts, call: CallId) -> (TableId<GroupKey>, TaskGro
     *parts.groups.get_mut_unchecked(group) = counted;
     close_order_keys(&mut parts.places, found.blocked);
     drop_order_key(&mut parts.ready_calls, found.ready);
+    close_waits(&mut parts.waits, found.waits);
     parts.kept.used -= 1;
     parts.table_places.give(found.entry);
     parts.kept.interesting -= one_if(found.call.interesting);

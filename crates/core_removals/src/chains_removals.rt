@@ -1,6 +1,6 @@
 //! Chains and nodes that are dropped with a record.
-ghost use Rattle.core_removals.specs.Chains.{Closes, Drops};
-ghost use Rattle.std.specs.Prelude.{◌≡◌, IsSome, true};
+ghost use Rattle.core_removals.specs.Chains.{Closes, ClosesIf, Drops, DropsIf};
+ghost use Rattle.std.specs.Prelude.{◌≡◌, IfSome, IsSome, true};
 ghost use Rattle.table_links.specs.Links.{is_made, list_of};
 
 use table_links::{Links, Node};
@@ -39,4 +39,26 @@ pub(crate) fn drop_order_key(links: &mut OrderedLists, node: Node)
     links.no_node_is_twice();
     links.remove(node);
     links.drop_node(node);
+}
+
+/// Drops the chain of a call's own threads that wait, if it has one.
+#[inline(always)]
+pub(crate) fn close_waits(waits: &mut OrderedLists, chain: Option<usize>)
+    requires { IfSome chain (λ c. IsSome (list_of waits.old c)) }
+    ensures { ClosesIf waits.old waits.new chain }
+{
+    if let Some(chain) = chain {
+        close_order_keys(waits, chain);
+    }
+}
+
+/// Drops the node of a thread among those of its call that wait, if it has one.
+#[inline(always)]
+pub(crate) fn drop_wait(waits: &mut OrderedLists, node: Option<Node>)
+    requires { IfSome node (λ n. is_made waits.old n.index ≡ true) }
+    ensures { DropsIf waits.old waits.new node }
+{
+    if let Some(node) = node {
+        drop_order_key(waits, node);
+    }
 }

@@ -12,7 +12,7 @@ ghost use Rattle.core_primitives.specs.Apart.{IsApart};
 ghost use Rattle.core_primitives.specs.StateView.{on_core, thread_of};
 ghost use Rattle.core_primitives.specs.Records.{LosesThreadBy, thread_retired};
 
-use crate::chains_removals::{close, close_order_keys, drop_order_key};
+use crate::chains_removals::{close, close_order_keys, drop_order_key, drop_wait};
 use core_places::{place, suspend};
 use core_primitives::{CallId, ThreadId};
 use core_records::{CoreParts, GuestTask, GuestThread};
@@ -48,6 +48,7 @@ fn drop_thread(parts: &mut CoreParts, thread: ThreadId)
     parts.threads.take(thread);
     close_order_keys(&mut parts.places, found.under);
     drop_order_key(&mut parts.places, found.node);
+    drop_wait(&mut parts.waits, found.wait);
     parts.behind.no_node_is_twice();
     close(&mut parts.behind, found.callers);
     parts.behind.drop_node(found.caller);

@@ -49,6 +49,10 @@ impl CallPrimitives for TaskCore {
         core_fields::task_event(&self.parts, call)
     }
 
+    fn cancel_was_asked(&self, call: CallId) -> bool {
+        core_fields::cancel_was_asked(&self.parts, call)
+    }
+
     fn cancel_was_delivered(&self, call: CallId) -> bool {
         core_fields::cancel_was_delivered(&self.parts, call)
     }
@@ -98,6 +102,10 @@ impl CallPrimitives for TaskCore {
 
     fn set_task_event(&mut self, call: CallId, event: Option<TaskEvent>) {
         core_fields::set_task_event(&mut self.parts, call, event);
+    }
+
+    fn set_cancel_asked(&mut self, call: CallId) {
+        core_fields::set_cancel_asked(&mut self.parts, call);
     }
 
     fn set_cancel_delivered(&mut self, call: CallId) {

@@ -1,13 +1,14 @@
 //! Instances, and the limits of a store.
 ghost use Rattle.std.specs.Prelude.{◌≡◌, ◌<◌, ◌≤◌, IfOk, None, OnErr, OnOk};
 ghost use Rattle.core_counts.specs.Limits.{with_capacity, with_handle_limit};
+ghost use Rattle.core_picks.specs.Rules.{with_version};
 ghost use Rattle.core_makes.specs.Instances.{with_instance};
 ghost use Rattle.machine_data.specs.Maps.{get, size};
 ghost use Rattle.machine_data.specs.Read.{table_use};
 ghost use Rattle.core_primitives.specs.StateView.{on_core};
 
 use crate::task_core::TaskCore;
-use machine_data::NoMemory;
+use machine_data::{NoMemory, Version};
 
 impl TaskCore {
     /// Makes an instance and answers its number, from 0: its counters and memory cells are 0, its flags are clear, and it has no handles.
@@ -44,6 +45,21 @@ impl TaskCore {
         ensures { self.new ≡ on_core (with_capacity entries) self.old }
     {
         core_counts::set_capacity(&mut self.parts, entries);
+    }
+
+    /// Returns by which rules calls are run.
+    pub fn rules(&self) -> Version
+        ensures { result ≡ self.now.core.version }
+    {
+        core_picks::version(&self.parts)
+    }
+
+    /// Makes these the rules by which calls are run. No call may be in the table.
+    pub fn set_rules(&mut self, rules: Version)
+        requires { size self.old.core.calls ≡ 0 }
+        ensures { self.new ≡ on_core (with_version rules) self.old }
+    {
+        core_picks::set_version(&mut self.parts, rules);
     }
 
     /// Returns how many handles may be live at once.

@@ -16,6 +16,11 @@ impl PlacePrimitives for TaskCore {
     }
 
     #[inline(always)]
+    fn arrive(&mut self, thread: ThreadId) {
+        core_picks::arrive(&mut self.parts, thread);
+    }
+
+    #[inline(always)]
     fn set_place(&mut self, thread: ThreadId, place: PlaceId) {
         core_places::set_place(&mut self.parts, thread, place);
     }
@@ -59,6 +64,10 @@ impl PlacePrimitives for TaskCore {
 
     fn first_waiter(&self, set: SetId) -> Option<ThreadId> {
         core_picks::first_waiter(&self.parts, set)
+    }
+
+    fn first_cancellable(&self, call: CallId) -> Option<ThreadId> {
+        core_picks::first_cancellable(&self.parts, call)
     }
 
     fn has_callers(&self, thread: ThreadId) -> bool {

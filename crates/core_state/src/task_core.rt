@@ -3,6 +3,7 @@ ghost use Rattle.core_records.specs.Seen.{IsSoundCore, nothing, seen};
 
 use core_primitives::{Primitives, ThreadId, View, WantedId};
 use core_records::CoreParts;
+use machine_data::Version;
 use std::alloc::Global;
 use std::marker::Model;
 
@@ -63,6 +64,11 @@ impl View for TaskCore {
 
     fn set_current(&mut self, thread: Option<ThreadId>) {
         core_counts::set_current(&mut self.parts, thread);
+    }
+
+    #[inline(always)]
+    fn version(&self) -> Version {
+        core_picks::version(&self.parts)
     }
 
     fn want(&mut self, wanted: WantedId) {

@@ -1,4 +1,5 @@
 -- That the two exports may be started, and where the run begins.
+use Rattle.machine_data.specs.declared.scenario.Version.TheVariants as version
 use Rattle.std.proofs.Common.{ap, arith, subst, ◌∙◌, ◌<◌, ◌≤◌}
 use Rattle.std.specs.Prelude.{List, [], true, ℕ, ◌≡◌}
 use Rattle.host_embedding.specs.Host.{TakesOne}
@@ -22,8 +23,8 @@ takes_one c f h = takes_these c f 1 (record { there = h.0; takes = h.1 })
 -- ---- A new store
 
 -- its few instances can be counted
-pub is_few : (n : ℕ) (s : Core) → n ≤ 2 → s ≡ fresh n 100000 1000000 → size s.instances < 4294967295
-is_few n s few is = let count : size s.instances ≡ n = ap (λ (u : Core). size u.instances) is ∙ size_fresh n 100000 1000000 in omega (arith, count, few)
+pub is_few : (n : ℕ) (s : Core) → n ≤ 2 → s ≡ fresh version.One n 100000 1000000 → size s.instances < 4294967295
+is_few n s few is = let count : size s.instances ≡ n = ap (λ (u : Core). size u.instances) is ∙ size_fresh version.One n 100000 1000000 in omega (arith, count, few)
 
 -- what was driven, with its setting, its first state and its trace before named otherwise
 pub driven : (y x : Setting) (s o : State) (before : List Label) (t : State) (after : List Label) (steps : ℕ) (outcome : Outcome) → y ≡ x → s ≡ o → before ≡ [] → Drives y s before t after steps outcome → Drives x o [] t after steps outcome

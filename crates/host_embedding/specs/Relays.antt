@@ -1,6 +1,7 @@
 -- What the relay does, and what its run tells of that.
 use Rattle.host_embedding.specs.declared.relay.Relay.{Relay}
 use Rattle.std.specs.Prelude.{List, [], true, ℕ, ◌∷◌, ◌≡◌}
+use Rattle.machine_data.specs.declared.scenario.Version.TheVariants as version
 use Rattle.machine_data.specs.Core.{State, Unscripted, fresh}
 use Rattle.machine_data.specs.declared.component.Component.{Component}
 use Rattle.machine_data.specs.declared.label.Label.{Label}
@@ -22,7 +23,7 @@ Relays m _ n = n.word ≡ m.word
 -- the trace is that of a run from a new store with two instances, which has ended in this outcome in so many steps at most
 abbrev pub RanFromNew : Component → List Label → (steps : ℕ) → Outcome → Type 0
 RanFromNew c trace steps o =
-    (t : State) × Drives (setting_of c [] true) (state_at (fresh 2 100000 1000000) Unscripted turn.Main) [] t trace steps o
+    (t : State) × Drives (setting_of c [] true) (state_at (fresh version.One 2 100000 1000000) Unscripted turn.Main) [] t trace steps o
 
 -- what the last call that was finished has returned, where the word was this before
 abbrev pub last_word : ℕ → List Label → ℕ

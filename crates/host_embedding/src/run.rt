@@ -1,4 +1,5 @@
 //! The store and the run.
+ghost use Rattle.machine_data.specs.declared.scenario.Version.TheVariants as versions;
 ghost use Rattle.std.specs.Prelude.{◌≡◌, ℕ, length, true, false, IfOk};
 ghost use Rattle.store_works.specs.KeptWorks.{HoldsNone};
 ghost use Rattle.machine_data.specs.Core.{fresh};
@@ -20,7 +21,7 @@ const STEPS: u32 = 64;
 
 // A new store with two instances.
 fn store(alloc: Global) -> Result<Store<(), ScriptedHost>, NoMemory>
-    ensures state { IfOk result (λ s. s.state ≡ with_core (fresh 2 100000 1000000) nothing) }
+    ensures state { IfOk result (λ s. s.state ≡ with_core (fresh versions.One 2 100000 1000000) nothing) }
     ensures free { IfOk result (λ s. s.running ≡ false) }
     ensures works { IfOk result (λ s. HoldsNone s.works) }
     ensures groups { IfOk result (λ s. IsAsked s.state) }

@@ -11,7 +11,7 @@ use Rattle.laws_beside.specs.Wide.{Due, Going, IsWideOutcome, Made, Never, Round
 use Rattle.std.proofs.Common.{ap, arith, inl, inr, length-append, refl, subst, sym, ◌∙◌}
 use Rattle.std.proofs.lemmas.List.{append-nil}
 use Rattle.std.specs.Prelude.{Bool, List, None, Option, Some, [], cond, false, if◌then◌else◌, length, suc, true, zero, ℕ, ◌&&◌, ◌+◌, ◌++◌, ◌∷◌, ◌≡◌, ◌≤◌}
-use Rattle.machine_data.specs.Core.{Core, Main, State, Version}
+use Rattle.machine_data.specs.Core.{Core, Main, State}
 use Rattle.machine_data.specs.Read.{is_nil}
 use Rattle.machine_data.specs.declared.label.Label.{Label}
 use Rattle.machine_data.specs.declared.label.Label.TheVariants as label
@@ -229,15 +229,13 @@ poll_run x w n found own ls s l v run step = let q = calls_go_on x w ls (wide s 
 }
 
 pub round_goes : RoundGoes
-round_goes x w n i found ended steps left own ls s t round next running version main core = by ended core running
+round_goes x w n i found ended steps left own ls s t round next running main core = by ended core running
   where
     went : IsRun x w ls (wide (at_take s) (Going n found)) own
     went = subst (λ (v : Wide). IsRun x w ls v own) (going_is x (at_take s) n i found next) round.run
 
     at_core : (k : Core) → t.core ≡ k → record (at_take s) { core = k } ≡ at_take t
-    at_core k core = ap (λ (v : Version). record (at_take s) { version = v; core = k }) (sym version)
-        ∙ (ap (λ (m : Main). record (at_take s) { version = t.version; core = k; main = m }) (sym main)
-        ∙ ap (λ (c : Core). record (at_take s) { version = t.version; core = c; main = t.main }) (sym core))
+    at_core k core = ap (λ (m : Main). record (at_take s) { core = k; main = m }) (sym main) ∙ ap (λ (c : Core). record (at_take s) { core = c; main = t.main }) (sym core)
 
     longer : (l : Label) → length (ls ++ l ∷ []) + left ≡ steps
     longer l = let more = length-append ls (l ∷ []) in let count = round.count in omega (arith, more, count)

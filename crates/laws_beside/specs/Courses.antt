@@ -131,7 +131,7 @@ abbrev pub RoundGoes : Type 0
 RoundGoes =
     (x : Setting) (w : Wide) (n i : ℕ) (found ended : Bool) (steps left : ℕ) (own : Own) (ls : List Label) (s t : State) →
     InRound x w n found steps (left + 1) own ls s → next_spawn n s.core ≡ Some i → (ended ≡ true → is_running_spawn i s.core ≡ true) →
-    t.version ≡ s.version → t.main ≡ s.main → t.core ≡ cond ended (poll_ends i None s.core) s.core →
+    t.main ≡ s.main → t.core ≡ cond ended (poll_ends i None s.core) s.core →
     InRound x w i (cond ended true found) steps left (with_poll x (at_take s) (polled_label ended i) own)
     (ls ++ polled_label ended i ∷ []) t
 

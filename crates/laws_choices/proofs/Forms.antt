@@ -1,13 +1,14 @@
 -- The forms of rules, and what each chooses among.
 use Rattle.laws_choices.proofs.ListLemmas.{has_not_nil, member_has, no_members, one_is_none}
-use Rattle.laws_choices.specs.Chooses.{Chooses, IsLawful, IsUnordered, MayCome, ReleasesOnce, ShowsChoice, no_choice}
+use Rattle.laws_choices.specs.Chooses.{Chooses, IsLawful, IsUnordered, MayCome, ReleasesOnce, ShowsChoice, hides, no_choice}
 use Rattle.laws_choices.specs.Offer.{Chosen, FitsOffer, Offer, is_one_of, shown}
 use Rattle.laws_choices.specs.Offers.{handles_of, names_ready, nothing, of_found, releases, takes_of, unless}
 use Rattle.std.proofs.Common.{ap, ap₂, arith, refl, subst, sym, ◌∙◌}
+use Rattle.std.proofs.lemmas.Bool.Decides.{nat_tests}
 use Rattle.std.proofs.lemmas.List.{nil_from_length}
 use Rattle.std.proofs.lemmas.List.Sorted.{IsPermutation-refl, length_permutation}
 use Rattle.std.specs.Option.{option_map_or}
-use Rattle.std.specs.Prelude.{Bool, IsPermutation, List, None, Option, Some, [], false, filter, if◌then◌else◌, is_some, length, option_and_then, true, ℕ, ◌≡◌}
+use Rattle.std.specs.Prelude.{Bool, IsPermutation, List, None, Option, Some, [], false, filter, if◌then◌else◌, is_some, length, option_and_then, true, ℕ, ◌≡◌, ◌∷◌}
 use Rattle.machine_data.specs.Core.{Core}
 use Rattle.machine_data.specs.Labels.{Choice, choice_of}
 use Rattle.machine_data.specs.Moves.{PickedEvent, PickedMember, NothingPicked, PickedTaskEvent, picked_event, picked_event_after_own, picked_member, picked_task_event_of}
@@ -16,8 +17,9 @@ use Rattle.machine_data.specs.declared.records.Subtask.{Subtask}
 use Rattle.machine_data.specs.declared.trap.Trap.{Trap}
 use Rattle.machine_data.specs.declared.trap.Trap.TheVariants as trap
 use Rattle.machine_data.specs.declared.statuses.TaskEvent.{TaskEvent}
-use Rattle.machine_rules.specs.Progress.{Asks, Fails, Continues, Never, Ordered, Progress, Stops, Traps, may, or_never, or_trap, trap_if}
+use Rattle.machine_rules.specs.Progress.{Asks, Fails, Continues, Never, OneOf, Ordered, Progress, Stops, Traps, may, or_never, or_trap, trap_if}
 use Rattle.machine_rules.specs.Sets.{chosen}
+use Rattle.machine_rules.specs.Step.{is_among}
 
 abbrev pub choosing : Option ℕ → Option ℕ → Choice
 choosing w m = record { woken = w; member = m }
@@ -27,12 +29,14 @@ pub record Picks (o : Offer) (row : Option ℕ → Option ℕ → Progress) : Ty
   pub only : (c : Chosen) → MayCome c (row c.waiter c.member) → FitsOffer c o
   pub each : (v k : Option ℕ) (c : Chosen) → IsLawful (row v k) → FitsOffer c o → MayCome c (row c.waiter c.member)
   pub once : (v k : Option ℕ) → ReleasesOnce (row v k)
+  pub takes : (v k w m : Option ℕ) → hides (row v k) ≡ true → row w m ≡ row v k
 
 pub chooses : {o : Offer} {row : Choice → Progress} → Picks o (λ w m. row (choosing w m)) → Chooses o row
 chooses p = record {
   only = λ c h. p.only c h;
   each = λ b c h fit. p.each b.woken b.member c h fit;
   once = λ b. p.once b.woken b.member;
+  takes = λ b d h. p.takes b.woken b.member d.woken d.member h;
 }
 
 -- ---- What a progress shows
@@ -44,6 +48,7 @@ shows_one a b (Traps t) h k = sym h ∙ k
 shows_one a b (Fails i) h k = sym h ∙ k
 shows_one a b Never h k = absurd h
 shows_one a b (Ordered ns next) h k = absurd h
+shows_one a b (OneOf ns next) h k = absurd h
 shows_one a b (Asks next) h k = absurd h
 
 pub comes : (c : Chosen) (p : Progress) → ShowsChoice (shown c) p → c.release ≡ [] → MayCome c p
@@ -53,6 +58,7 @@ comes c (Traps t) h none = (h, none)
 comes c (Fails i) h none = (h, none)
 comes c Never h none = absurd h
 comes c (Ordered ns next) h none = absurd h
+comes c (OneOf ns next) h none = absurd h
 comes c (Asks next) h none = absurd h
 
 -- what comes about without a release
@@ -63,6 +69,7 @@ came c (Traps t) un h = h
 came c (Fails i) un h = h
 came c Never un h = h
 came c (Ordered ns next) un h = absurd un
+came c (OneOf ns next) un h = absurd un
 came c (Asks next) un h = absurd un
 
 pub unordered : (a : Choice) (p : Progress) → ShowsChoice a p → IsUnordered p
@@ -72,6 +79,7 @@ unordered a (Traps t) h = tt
 unordered a (Fails i) h = tt
 unordered a Never h = absurd h
 unordered a (Ordered ns next) h = absurd h
+unordered a (OneOf ns next) h = absurd h
 unordered a (Asks next) h = absurd h
 
 pub releases_none : (p : Progress) → IsUnordered p → ReleasesOnce p
@@ -81,7 +89,19 @@ releases_none (Traps t) un = tt
 releases_none (Fails i) un = tt
 releases_none Never un = tt
 releases_none (Ordered ns next) un = absurd un
+releases_none (OneOf ns next) un = absurd un
 releases_none (Asks next) un = absurd un
+
+-- nor does it take one of several threads
+hides_none : (p : Progress) → IsUnordered p → hides p ≡ true → ⊥
+hides_none (Continues l new m) un h = absurd (grind (arith, h))
+hides_none (Stops l new) un h = absurd (grind (arith, h))
+hides_none (Traps t) un h = absurd (grind (arith, h))
+hides_none (Fails i) un h = absurd (grind (arith, h))
+hides_none Never un h = absurd (grind (arith, h))
+hides_none (Ordered ns next) un h = absurd un
+hides_none (OneOf ns next) un h = absurd un
+hides_none (Asks next) un h = absurd un
 
 pub lawful : (c : Chosen) (p : Progress) → MayCome c p → IsLawful p
 lawful c (Continues l new m) h = tt
@@ -90,6 +110,7 @@ lawful c (Traps t) h = tt
 lawful c (Fails i) h = tt
 lawful c Never h = absurd h.0
 lawful c (Ordered ns next) h = tt
+lawful c (OneOf ns next) h = tt
 lawful c (Asks next) h = tt
 
 -- ---- Nothing is offered
@@ -115,6 +136,7 @@ abbrev pub IsSilent : Progress → Type 0
 IsSilent (Continues l new m) = choice_of l ≡ no_choice
 IsSilent (Stops l new) = choice_of l ≡ no_choice
 IsSilent (Ordered ns next) = ⊥
+IsSilent (OneOf ns next) = ⊥
 IsSilent (Asks next) = ⊥
 IsSilent _ = Unit {0}
 
@@ -125,6 +147,7 @@ silent_unordered (Traps t) h = tt
 silent_unordered (Fails i) h = tt
 silent_unordered Never h = tt
 silent_unordered (Ordered ns next) h = absurd h
+silent_unordered (OneOf ns next) h = absurd h
 silent_unordered (Asks next) h = absurd h
 
 silent_shows : (ch : Choice) (p : Progress) → IsSilent p → ShowsChoice ch p → no_choice ≡ ch
@@ -134,6 +157,7 @@ silent_shows ch (Traps t) h k = k
 silent_shows ch (Fails i) h k = k
 silent_shows ch Never h k = absurd k
 silent_shows ch (Ordered ns next) h k = absurd k
+silent_shows ch (OneOf ns next) h k = absurd k
 silent_shows ch (Asks next) h k = absurd k
 
 silent_each : (ch : Choice) (p : Progress) → IsSilent p → IsLawful p → no_choice ≡ ch → ShowsChoice ch p
@@ -143,6 +167,7 @@ silent_each ch (Traps t) h lawful e = e
 silent_each ch (Fails i) h lawful e = e
 silent_each ch Never h lawful e = absurd lawful
 silent_each ch (Ordered ns next) h lawful e = absurd h
+silent_each ch (OneOf ns next) h lawful e = absurd h
 silent_each ch (Asks next) h lawful e = absurd h
 
 pub silent : (p : Progress) → IsSilent p → Picks nothing (λ w m. p)
@@ -150,6 +175,7 @@ silent p h = record {
   only = λ c k. let r = came c p (silent_unordered p h) k in none_fits c (silent_shows (shown c) p h r.0) r.1;
   each = λ v k c lawful fit. let r = shows_none c fit in comes c p (silent_each (shown c) p h lawful r.0) r.1;
   once = λ v k. releases_none p (silent_unordered p h);
+  takes = λ v k w m it. refl;
 }
 
 -- ---- Traps, and what may not be found
@@ -175,7 +201,38 @@ released held next shows = record {
       let e = ap₂ choosing (sym (one_is_none [] c.waiter refl fit.waiter)) (sym (one_is_none [] c.member refl fit.member)) in
       (fit.release, subst (λ ch. ShowsChoice ch (next c.release)) e (shows c.release));
   once = λ v k. λ order. unordered no_choice (next order) (shows order);
+  takes = λ v k w m it. absurd (grind (arith, it));
 }
+
+-- ---- One of several threads
+
+among_is : (m : ℕ) (ns : List ℕ) → is_among m ns ≡ is_one_of ns (Some m)
+among_is m [] = refl
+among_is m (n ∷ ns) = grind (arith, nat_tests, among_is m ns)
+
+-- a cancel takes it, whatever is shown
+pub one_taken : (ns : List ℕ) (next : ℕ → Progress) → is_nil ns ≡ false → ((m : ℕ) → ShowsChoice no_choice (next m)) →
+    Picks (record { waiters = ns; members = []; held = [] }) (λ w m. OneOf ns next)
+one_taken ns next some shows = record {
+  only = λ c h. record {
+    waiter = ap (λ (w : Option ℕ). is_one_of ns w) h.1.0.0 ∙ (sym (among_is h.0 ns) ∙ h.1.0.1);
+    member = ap (λ (w : Option ℕ). is_one_of [] w) h.1.1.0;
+    release = subst (λ order. IsPermutation [] order) (sym h.1.1.1.0) (IsPermutation-refl []);
+  };
+  each = λ v k c lawful fit. each c c.waiter refl fit;
+  once = λ v k. shows;
+  takes = λ v k w m it. refl;
+}
+  where
+    each : (c : Chosen) (w : Option ℕ) → c.waiter ≡ w → FitsOffer c (record { waiters = ns; members = []; held = [] }) → MayCome c (OneOf ns next)
+    each c None is fit = absurd (let none = ap (λ (w : Option ℕ). is_one_of ns w) (sym is) ∙ fit.waiter in grind (arith, none, some))
+    each c (Some m) is fit = (
+      m,
+      (
+        (is, among_is m ns ∙ (ap (λ (w : Option ℕ). is_one_of ns w) (sym is) ∙ fit.waiter)),
+        (one_is_none [] c.member refl fit.member, (no_release [] c.release refl fit.release, shows m)),
+      ),
+    )
 
 -- ---- A wake
 
@@ -201,6 +258,7 @@ module _ (o : Offer) (of : OfWaiters o) where
       only = λ c h. only c (test c.waiter) refl h;
       each = λ v k c lawful fit. each c (test c.waiter) (same c.waiter ∙ fit.waiter) fit;
       once = λ v k. once v (test v);
+      takes = λ v k w m it. absurd (apart v (test v) it);
     }
       where
         only : (c : Chosen) (b : Bool) → test c.waiter ≡ b → MayCome c (may b (row c.waiter)) → FitsOffer c o
@@ -219,6 +277,10 @@ module _ (o : Offer) (of : OfWaiters o) where
         once v true = releases_none (row v) (unordered _ (row v) (shows v))
         once v false = tt
 
+        apart : (v : Option ℕ) (b : Bool) → hides (may b (row v)) ≡ true → ⊥
+        apart v true it = hides_none (row v) (unordered _ (row v) (shows v)) it
+        apart v false it = absurd (grind (arith, it))
+
     -- a waiter is woken, and threads are released
     pub woken_released : (held : List ℕ) (next : Option ℕ → List ℕ → Progress) → ((w : Option ℕ) (order : List ℕ) → ShowsChoice (choosing w None) (next w order)) →
         Picks (releases held o) (λ w m. may (test w) (Ordered held (next w)))
@@ -226,6 +288,7 @@ module _ (o : Offer) (of : OfWaiters o) where
       only = λ c h. only c (test c.waiter) refl h;
       each = λ v k c lawful fit. each c (test c.waiter) (same c.waiter ∙ fit.waiter) fit;
       once = λ v k. once v (test v);
+      takes = λ v k w m it. absurd (apart v (test v) it);
     }
       where
         only : (c : Chosen) (b : Bool) → test c.waiter ≡ b → MayCome c (may b (Ordered held (next c.waiter))) → FitsOffer c (releases held o)
@@ -245,13 +308,17 @@ module _ (o : Offer) (of : OfWaiters o) where
         once v true = λ order. unordered _ (next v order) (shows v order)
         once v false = tt
 
+        apart : (v : Option ℕ) (b : Bool) → hides (may b (Ordered held (next v))) ≡ true → ⊥
+        apart v true it = absurd (grind (arith, it))
+        apart v false it = absurd (grind (arith, it))
+
 -- ---- A member
 
 -- the rule takes the member that the handle names, and wakes none
 pub record TakesMember (row : Option ℕ → Option ℕ → Progress) : Type 0 where
   pub shows : (h : ℕ) → ShowsChoice (choosing None (Some h)) (row None (Some h))
   pub only : (c : Chosen) (h : ℕ) → c.member ≡ Some h → MayCome c (row c.waiter c.member) → (c.waiter ≡ None) × (c.release ≡ [])
-  pub once : (v k : Option ℕ) → ReleasesOnce (row v k)
+  pub once : (v k : Option ℕ) → IsUnordered (row v k)
 
 -- the handle names a ready member
 pub record Named (n x : ℕ) (s : Core) (m : Option ℕ) : Type 0 where
@@ -309,7 +376,8 @@ module _ (n x : ℕ) (s : Core) where
           release = subst (λ ns. IsPermutation [] ns) (sym r.1) (IsPermutation-refl []);
         };
     each = λ v k c law fit. each (found_named (next v k) k law) c fit;
-    once = λ v k. once v k (member_of k) refl;
+    once = λ v k. releases_none (or_never (member_of k) (next v k)) (once v k (member_of k) refl);
+    takes = λ v k w m it. absurd (hides_none (or_never (member_of k) (next v k)) (once v k (member_of k) refl) it);
   }
     where
       named_of : {k : Option ℕ} → Named n x s k → (m : Option ℕ) → is_one_of members m ≡ true → Named n x s m
@@ -325,14 +393,14 @@ module _ (n x : ℕ) (s : Core) where
           (subst (λ (ch : Choice). ShowsChoice ch (next ch.woken ch.member (PickedMember e.subtask))) it ((takes e.subtask).shows e.handle))
           (no_release [] c.release refl fit.release))
 
-      once : (v k : Option ℕ) (o : Option PickedEvent) → member_of k ≡ o → ReleasesOnce (or_never o (next v k))
+      once : (v k : Option ℕ) (o : Option PickedEvent) → member_of k ≡ o → IsUnordered (or_never o (next v k))
       once v k None is = tt
       once v k (Some g) is = by k g is
         where
-          by : (k : Option ℕ) (g : PickedEvent) → member_of k ≡ Some g → ReleasesOnce (next v k g)
+          by : (k : Option ℕ) (g : PickedEvent) → member_of k ≡ Some g → IsUnordered (next v k g)
           by k g at =
               let d = found_named (λ g. Traps trap.BadHandle) k (subst (λ o. IsLawful (or_never o (λ g. Traps trap.BadHandle))) (sym at) tt) in
-              subst (λ (o : Option PickedEvent). ReleasesOnce (or_never o (next v k))) (sym (named_picked_event d) ∙ at) ((takes d.subtask).once v k)
+              subst (λ (o : Option PickedEvent). IsUnordered (or_never o (next v k))) (sym (named_picked_event d) ∙ at) ((takes d.subtask).once v k)
 
   -- what a thread is given: its task event, that of a member, or nothing
   pub given : (by_callback : Bool) (o : Offer) (next : Option ℕ → Option ℕ → PickedEvent → Progress) → ((e : TaskEvent) → Picks o (λ w m. next w m (PickedTaskEvent e))) →

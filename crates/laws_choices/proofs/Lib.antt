@@ -2,6 +2,7 @@ pub mod ListLemmas
 pub mod OfferLemmas
 pub mod Forms
 pub mod SilentRules
+pub mod CancelPicks
 pub mod ReturnChecks
 pub mod RulePicks
 pub mod TakePicks

@@ -2,10 +2,10 @@
 use Rattle.laws_choices.proofs.Forms.{choosing}
 use Rattle.laws_choices.proofs.ListLemmas.{has, has_not_nil}
 use Rattle.laws_choices.proofs.StepLemmas.{step_chooses}
-use Rattle.laws_choices.specs.Lines.{EndsIn, EndsInTwo, LastReadBack, LineShowsMember, LineShowsWaiter, LineTellsChoice, NextReadBack}
-use Rattle.laws_choices.specs.Offer.{is_one_of}
+use Rattle.laws_choices.specs.Lines.{EndsIn, EndsInTwo, IsNarrow, LastReadBack, LineShowsMember, LineShowsWaiter, LineTellsChoice, NextReadBack}
+use Rattle.laws_choices.specs.Offer.{Chosen, is_one_of}
 use Rattle.laws_choices.specs.Offers.{offer}
-use Rattle.laws_choices.specs.Steps.{StepChooses}
+use Rattle.laws_choices.specs.Steps.{IsChoiceOf, StepChooses, hides_in, told}
 use Rattle.std.proofs.Common.{append_assoc, ◌^◌}
 use Rattle.std.proofs.lemmas.Bool.{ne_eqb}
 use Rattle.std.proofs.lemmas.Fmt.{decimal_injective, decimal_is_IsNumeral}
@@ -13,7 +13,7 @@ use Rattle.std.proofs.lemmas.Str.Parse.{digit_from_value}
 use Rattle.std.specs.Prelude.{codes, decimal}
 use Rattle.std.specs.Str.Parse.{AllDigits}
 use Rattle.machine_data.specs.Labels.{handle_given, member_of, member_of_set, member_of_take, woken_of_set, woken_of_take, woken_of_task}
-use Rattle.machine_rules.proofs.Machine.{Choice, Given, IfSome, Label, List, None, Option, SetLabel, Some, Status, TakeLabel, TaskLabel, [], ap, ap₂, arith, false, nat_tests, refl, status_code, subst, sym, true, unwrap_or, woken_of, ℕ, ◌++◌, ◌+◌, ◌<◌, ◌==◌, ◌∙◌, ◌∷◌, ◌≡◌}
+use Rattle.machine_rules.proofs.Machine.{Choice, Given, IfSome, Label, List, None, Option, SetLabel, Some, Status, TakeLabel, TaskLabel, [], ap, ap₂, arith, false, nat_tests, refl, status_code, subst, sym, true, unwrap_or, woken_of, ℕ, ◌++◌, ◌+◌, ◌<◌, ◌==◌, ◌∙◌, ◌∷◌, ◌≡◌, Setting, State, Bool, choice_of}
 use Rattle.machine_data.specs.Moves.{given_own}
 use Rattle.machine_rules.specs.Texts.{answer_text, event_text, given_text, label_text, op_text, set_text, take_text, taken_text, task_text, wakes}
 
@@ -165,22 +165,27 @@ next_back : (text : List ℕ) (m n v w : ℕ) → m < 2 ^ 64 → n < 2 ^ 64 → 
 unfolding NextReadBack
 next_back = next_read_back
 
+module _ (x : Setting) (s : State) (l k : Label) (t u : State) (c d : Chosen) (one : IsChoiceOf x s c l t) (two : IsChoiceOf x s d k u) where
+  choice_told : IsNarrow (choice_of l) → IsNarrow (choice_of k) → label_text l ≡ label_text k →
+      (b : Bool) → choice_of l ≡ told b c → choice_of k ≡ told b d → choice_of l ≡ choice_of k
+  choice_told small thin line true a b = a ∙ sym b
+  choice_told small thin line false a b =
+      let waiter = alike (offer x s).waiters (woken_of l) (woken_of k)
+      (ap (λ (ch : Choice). is_one_of (offer x s).waiters ch.woken) a ∙ one.fits.waiter)
+      (ap (λ (ch : Choice). is_one_of (offer x s).waiters ch.woken) b ∙ two.fits.waiter)
+      (λ m n e f. last_back (label_text k) m n (narrow (woken_of l) m small.0 e) (narrow (woken_of k) n thin.0 f)
+      (subst (λ text. EndsIn text m) line (shows_waiter l m e)) (shows_waiter k n f)) in
+      let member = alike (offer x s).members (member_of l) (member_of k)
+      (ap (λ (ch : Choice). is_one_of (offer x s).members ch.member) a ∙ one.fits.member)
+      (ap (λ (ch : Choice). is_one_of (offer x s).members ch.member) b ∙ two.fits.member)
+      (λ m n e f. let p = shows_member l m e in let q = shows_member k n f in
+      next_back (label_text k) m n p.0 q.0 (narrow (member_of l) m small.1 e) (narrow (member_of k) n thin.1 f) p.1.0 q.1.0
+      (subst (λ text. EndsInTwo text m p.0) line p.1.1) q.1.1) in
+      ap₂ choosing waiter member
+
 pub line_tells_choice : LineTellsChoice
 unfolding LineTellsChoice StepChooses
 line_tells_choice x s closed home l k t u step other small thin line =
     let c = step_chooses x s closed home l t step in
     let d = step_chooses x s closed home k u other in
-    let a = c.1.shows in
-    let b = d.1.shows in
-    let waiter = alike (offer x s).waiters (woken_of l) (woken_of k)
-    (ap (λ (ch : Choice). is_one_of (offer x s).waiters ch.woken) a ∙ c.1.fits.waiter)
-    (ap (λ (ch : Choice). is_one_of (offer x s).waiters ch.woken) b ∙ d.1.fits.waiter)
-    (λ m n e f. last_back (label_text k) m n (narrow (woken_of l) m small.0 e) (narrow (woken_of k) n thin.0 f)
-    (subst (λ text. EndsIn text m) line (shows_waiter l m e)) (shows_waiter k n f)) in
-    let member = alike (offer x s).members (member_of l) (member_of k)
-    (ap (λ (ch : Choice). is_one_of (offer x s).members ch.member) a ∙ c.1.fits.member)
-    (ap (λ (ch : Choice). is_one_of (offer x s).members ch.member) b ∙ d.1.fits.member)
-    (λ m n e f. let p = shows_member l m e in let q = shows_member k n f in
-    next_back (label_text k) m n p.0 q.0 (narrow (member_of l) m small.1 e) (narrow (member_of k) n thin.1 f) p.1.0 q.1.0
-    (subst (λ text. EndsInTwo text m p.0) line p.1.1) q.1.1) in
-    ap₂ choosing waiter member
+    choice_told x s l k t u c.0 d.0 c.1 d.1 small thin line (hides_in x s s.turn) c.1.shows d.1.shows

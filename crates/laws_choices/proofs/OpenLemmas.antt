@@ -1,7 +1,7 @@
 -- An open offer of a state is fitted by two choices at least: its lists rise, so none has a number twice.
 use Rattle.laws_choices.proofs.OfferLemmas.{first_fits}
 use Rattle.laws_choices.specs.Offer.{Chosen, FitsOffer, Offer, first_choice, first_of, has_two, is_one_of, is_open}
-use Rattle.laws_choices.specs.Offers.{code_kind_offer, code_offer, dec_offer, delivery_offer, gives, gives_woken, handles_of, join_done_offer, join_to_offer, kind_exit_offer, names_ready, nothing, of_found, offer, op_offer, releases, set_offer, start_offer, take_offer, takes_of, task_offer, tells, thread_offer, turn_offer, unless, wait_offer, wakes, wakes_in, wakes_new, why_offer}
+use Rattle.laws_choices.specs.Offers.{call_offer, cancel_found_offer, cancel_offer, cancel_offer_by, code_kind_offer, code_offer, dec_offer, delivery_offer, gives, gives_woken, handles_of, join_done_offer, join_to_offer, kind_exit_offer, names_ready, nothing, of_found, offer, op_offer, releases, set_offer, start_offer, take_offer, takes_of, task_offer, tells, thread_offer, turn_offer, unless, wait_offer, wakes, wakes_in, wakes_new, why_offer}
 use Rattle.laws_choices.specs.Steps.{OpenHasTwo}
 use Rattle.std.proofs.Common.{ap₂, T}
 use Rattle.std.proofs.lemmas.List.Sorted.{IsPermutation-swap}
@@ -11,6 +11,11 @@ use Rattle.std.specs.FinMap.Entries.{below_all, is_sorted}
 use Rattle.std.specs.Ordering.{is_eq, is_lt}
 use Rattle.machine_data.specs.Core.{NameTable}
 use Rattle.machine_data.specs.Maps.{Records}
+use Rattle.machine_data.specs.Moves.{is_callback_waiter, waits_cancellable}
+use Rattle.machine_data.specs.Read.{is_joined}
+use Rattle.machine_data.specs.declared.op.CallOp.TheVariants as call_op
+use Rattle.machine_data.specs.declared.op.CallOp.{CallOp}
+use Rattle.machine_rules.specs.Cancels.{CancelCase, ThreadWaits, cancel_case, cancellable, is_waiting_of, waiting_callback, waiting_in}
 use Rattle.machine_rules.specs.Task.{held_by_counter}
 use Rattle.machine_rules.proofs.Machine.{Bool, Core, Delivery, Entry, ExportKind, OpProgress, IsPermutation, Join, List, Named, None, Op, Option, Place, SetOp, Setting, Some, Status, Subtask, TaskOp, Turn, Why, [], admits, admitted_held, ap, arith, at_handle_limit, backpressure_of, cancel_was_delivered, event_of, false, filter, finds_nothing, foot_of, get, goal_of, has_ended, has_ready_member, held_by_flag, held_why, op_progress_of, if◌then◌else◌, instance_of, is_async_lifted, is_direct, is_explicit, is_held_admitted, is_some, is_told, is_waiter, is_watched, join_of, kind_of, leaves_no_result, map, nat_cmp, nat_lt, nat_tests, next_entry, not, numbers, op_of, option_and_then, option_map_or, picked_task_event_of, passes_after_return, passes_after_stop, place_of, popped, refl, set_at, set_backpressure, set_do_not_enter, starting_is_published, subtask_at, suc, task_of, true, unsigned_tied, unwrap_or, value_of, zero, ℕ, ◌%◌, ◌&&◌, ◌*◌, ◌+◌, ◌/◌, ◌∙◌, ◌∷◌, ◌≡◌}
 
@@ -111,6 +116,32 @@ counter_rises : (i : ℕ) (s : Core) → rises (held_by_counter i s) ≡ true
 unfolding held_by_counter admitted_held
 counter_rises i s = let t = set_backpressure i 0 s in kept_rises (λ n. is_held_admitted i t n (option_and_then held_why (place_of n t))) (numbers t.threads) (numbers_rise t.threads)
 
+-- ---- Cancels
+
+taken_rise : (k : ℕ) (s : Core) → rises (cancellable k s) ≡ true
+taken_rise k s = by (waits_cancellable k s)
+  where
+    one : (b : Bool) → rises (if b then k ∷ [] else []) ≡ true
+    one true = refl
+    one false = refl
+
+    by : (b : Bool) → rises (if b then waiting_in k s else waiting_callback k s) ≡ true
+    by true = kept_rises (is_waiting_of k s) (numbers s.threads) (numbers_rise s.threads)
+    by false = one (is_callback_waiter k s)
+
+cancel_by_rise : (k : ℕ) (s : Core) (x : CancelCase) → Rising (cancel_offer_by k s x)
+cancel_by_rise k s ThreadWaits = (taken_rise k s, (refl, refl))
+cancel_by_rise k s _ = none_rise
+
+cancel_found_rise : (s : Core) (sub : Subtask) → Rising (cancel_found_offer s sub)
+cancel_found_rise s (Subtask.Guest k) = unless_rise (is_joined (join_of (Subtask.Guest k) s)) _ (cancel_by_rise k s (cancel_case k s))
+cancel_found_rise s (Subtask.Host i) = none_rise
+
+cancel_rise : (n h : ℕ) (s : Core) (far : OpProgress) → Rising (cancel_offer n h s far)
+cancel_rise n h s (OpProgress.Cancels sub) = none_rise
+cancel_rise n h s (OpProgress.AwaitsEnd sub) = none_rise
+cancel_rise n h s _ = found_rise (subtask_at (instance_of n s) h s) _ (cancel_found_rise s)
+
 -- ---- Ops and takings
 
 module _ (n : ℕ) (s : Core) where
@@ -149,11 +180,15 @@ module _ (n : ℕ) (s : Core) where
   task_rise TaskOp.BpInc = none_rise
   task_rise TaskOp.BpDec = dec_rise (backpressure_of (instance_of n s) s)
 
-  begins_rise : (h : ℕ) → Rising (of_found (set_at (instance_of n s) h s) (λ x. if finds_nothing n x s then nothing else gives false n x s))
-  begins_rise h = found_rise (set_at (instance_of n s) h s) _ (λ x. either (finds_nothing n x s) _ _ none_rise (gives_rise false n x s))
+  -- whether `wait` may take Cancelled
+  abbrev may_cancel : Bool
+  may_cancel = waits_cancellable (task_of n s) s
+
+  begins_rise : (h : ℕ) → Rising (of_found (set_at (instance_of n s) h s) (λ x. if finds_nothing n x s then nothing else gives may_cancel n x s))
+  begins_rise h = found_rise (set_at (instance_of n s) h s) _ (λ x. either (finds_nothing n x s) _ _ none_rise (gives_rise may_cancel n x s))
 
   wait_rise : (h : ℕ) (far : OpProgress) → Rising (wait_offer n h s far)
-  wait_rise h (OpProgress.Waits x) = woken_rise false n x s
+  wait_rise h (OpProgress.Waits x) = woken_rise may_cancel n x s
   wait_rise h _ = begins_rise h
 
   new_rise : (e : Option Status) (x : Option ℕ) → Rising (wakes_new e x s)
@@ -175,11 +210,16 @@ module _ (n : ℕ) (s : Core) where
   set_rise (SetOp.Poll r x) = found_rise (set_at (instance_of n s) (value_of n s x) s) _ (λ y. gives_rise false n y s)
   set_rise (SetOp.Join x y) = found_rise (subtask_at (instance_of n s) (value_of n s x) s) _ (λ sub. join_to_rise (value_of n s y) sub)
 
+  call_rise : (o : CallOp) → Rising (call_offer n s o)
+  call_rise (call_op.Cancel r x) = cancel_rise n (value_of n s x) s (op_progress_of n s)
+  call_rise (call_op.CancelSync r x) = cancel_rise n (value_of n s x) s (op_progress_of n s)
+  call_rise _ = none_rise
+
   op_rise : (o : Op) → Rising (op_offer n s o)
   op_rise (Op.Task o) = task_rise o
   op_rise (Op.Set o) = set_rise o
   op_rise (Op.Data o) = none_rise
-  op_rise (Op.Call o) = none_rise
+  op_rise (Op.Call o) = call_rise o
   op_rise (Op.Thread o) = none_rise
 
   start_rise : (b : Bool) → Rising (start_offer n s b)

@@ -1,14 +1,15 @@
 -- What the rules of ops choose among.
+use Rattle.laws_choices.proofs.CancelPicks.{call_picks}
 use Rattle.laws_choices.proofs.Forms.{OfWaiters, Picks, TakesMember, chooses, choosing, found, given, none_fits, released, shows_none, silent, trapped, woken, woken_released}
 use Rattle.laws_choices.proofs.ListLemmas.{one_is_none, wake_fits}
 use Rattle.laws_choices.proofs.ReturnChecks.{same_check}
-use Rattle.laws_choices.proofs.SilentRules.{calls_silent, data_silent, direct_exit_silent, inc_silent, ret_bad_silent, set_drop_silent, set_new_silent, silent_or_trap, silent_trap_if, thread_exit_silent, thread_silent}
-use Rattle.laws_choices.specs.Chooses.{IsLawful, MayCome, ReleasesOnce, RulesChoose, no_choice}
+use Rattle.laws_choices.proofs.SilentRules.{data_silent, direct_exit_silent, inc_silent, ret_bad_silent, set_drop_silent, set_new_silent, silent_or_trap, silent_trap_if, thread_exit_silent, thread_silent}
+use Rattle.laws_choices.specs.Chooses.{IsLawful, IsUnordered, MayCome, ReleasesOnce, RulesChoose, hides, no_choice}
 use Rattle.laws_choices.specs.Offer.{Chosen, FitsOffer, Offer, is_one_of}
 use Rattle.laws_choices.specs.Offers.{blocking_exit_offer, code_kind_offer, code_offer, dec_offer, gives, gives_woken, join_done_offer, join_to_offer, kind_exit_offer, nothing, op_offer, poll_offer, releases, ret_offer, set_offer, sync_exit_offer, task_cancel_offer, task_offer, tells, unless, wait_offer, wakes, wakes_in, wakes_new}
 use Rattle.laws_states.specs.Order.{WaitsAtHome}
 use Rattle.machine_data.specs.Labels.{handle_given}
-use Rattle.machine_data.specs.Moves.{given_own}
+use Rattle.machine_data.specs.Moves.{given_own, waits_cancellable}
 use Rattle.machine_rules.proofs.Machine.{HasOpen, Bool, Choice, Component, Core, ExportKind, PickedEvent, Given, Continues, OpProgress, Join, Label, List, PickedMember, NothingPicked, None, Op, Option, Ordered, TaskEvent, PickedTaskEvent, Progress, SetLabel, SetOp, Some, Status, Stops, Subtask, TaskLabel, TaskOp, Trap, Traps, [], ap, arith, backpressure_of, blocking_exit_rule, blocking_exits, cancel_was_delivered, choice_of, chosen, code_kind_rule, code_rule, code_wait_rule, event_of, exit_label, exit_rule_for, false, finds_nothing, foot_of, picked_event, given_for, goal_of, has_ended, has_event_for, has_ready_member, held_by_flag, op_progress_of, if◌then◌else◌, implicit_exit_rule, instance_of, is_async_lifted, is_direct, is_explicit, is_none, is_told, is_watched, join_done, join_label, join_of, join_to, kind_exit_rule, kind_of, leaves_no_result, may, may_hand_on, may_publish, may_tell, may_wake, may_wake_joined, may_wake_new, nat_lt, not, scripted_op_rule, or_never, passes_after_return, passes_after_stop, passes_check, received, refl, ret_label, set_at, subst, subtask_at, suc, sym, sync_exit_rule, task_cancel_label, task_of, trap_if, true, under_of, unwrap_or, value_of, wait_begins, wait_goes_on, wait_label, zero, ℕ, ◌%◌, ◌*◌, ◌+◌, ◌/◌, ◌∙◌, ◌≡◌}
 use Rattle.machine_rules.specs.Sets.{scripted_poll_rule, scripted_set_rule, scripted_wait_rule}
 use Rattle.machine_rules.specs.Task.{dec_from, held_by_counter, scripted_ret_rule, scripted_task_cancel_rule, scripted_task_rule}
@@ -99,9 +100,9 @@ own_silent TaskEvent.Cancelled = refl
 
 module _ {o : Offer} (fails ok : Option ℕ → Bool) (t : Trap) (row : Option ℕ → Progress) where
   pub trapped_alike : (inner : Picks o (λ w m. may (ok w) (row w))) → ((c : Chosen) → FitsOffer c o → ok c.waiter ≡ true) → ((w : Option ℕ) → IsLawful (row w)) →
-      ((w : Option ℕ) → ok w ≡ true → fails w ≡ fails None) →
+      ((w : Option ℕ) → ok w ≡ true → fails w ≡ fails None) → ((w : Option ℕ) → hides (may (ok w) (row w)) ≡ true → ⊥) →
       Picks (unless (fails None) o) (λ w m. trap_if (fails w) t (may (ok w) (row w)))
-  trapped_alike inner fitting law same = by (fails None) refl
+  trapped_alike inner fitting law same apart = by (fails None) refl
     where
       once : (v k : Option ℕ) → ReleasesOnce (trap_if (fails v) t (may (ok v) (row v)))
       once v k = at (fails v)
@@ -109,6 +110,13 @@ module _ {o : Offer} (fails ok : Option ℕ → Bool) (t : Trap) (row : Option �
           at : (b : Bool) → ReleasesOnce (trap_if b t (may (ok v) (row v)))
           at true = tt
           at false = inner.once v k
+
+      takes : (v k w m : Option ℕ) → hides (trap_if (fails v) t (may (ok v) (row v))) ≡ true → trap_if (fails w) t (may (ok w) (row w)) ≡ trap_if (fails v) t (may (ok v) (row v))
+      takes v k w m it = absurd (at (fails v) it)
+        where
+          at : (b : Bool) → hides (trap_if b t (may (ok v) (row v))) ≡ true → ⊥
+          at true h = absurd (grind (arith, h))
+          at false h = apart v h
 
       by : (b : Bool) → fails None ≡ b → Picks (unless b o) (λ w m. trap_if (fails w) t (may (ok w) (row w)))
       by true is = record {
@@ -118,6 +126,7 @@ module _ {o : Offer} (fails ok : Option ℕ → Bool) (t : Trap) (row : Option �
             let alone : fails c.waiter ≡ true = ap fails (one_is_none [] c.waiter refl fit.waiter) ∙ is in
             subst (λ (b : Bool). MayCome c (trap_if b t (may (ok c.waiter) (row c.waiter)))) (sym alone) r;
         once = once;
+        takes = takes;
       }
         where
           never : (c : Chosen) (d : Bool) → ok c.waiter ≡ d → fails c.waiter ≡ false → MayCome c (may d (row c.waiter)) → FitsOffer c nothing
@@ -133,6 +142,7 @@ module _ {o : Offer} (fails ok : Option ℕ → Bool) (t : Trap) (row : Option �
             let good = fitting c fit in
             subst (λ (b : Bool). MayCome c (trap_if b t (may (ok c.waiter) (row c.waiter)))) (sym (same c.waiter good ∙ is)) (inner.each c.waiter None c (allowed c good) fit);
         once = once;
+        takes = takes;
       }
         where
           allowed : (c : Chosen) → ok c.waiter ≡ true → IsLawful (may (ok c.waiter) (row c.waiter))
@@ -164,7 +174,11 @@ module _ (n : ℕ) (s : Core) where
       let held = held_by_flag (instance_of n s) s in
       trapped_alike (λ w. not (passes_after_return n w s)) (λ w. may_tell k w s) _ (λ w. Ordered held (λ order. Stops (exit_label n w) (blocking_exits n w order s)))
       (woken_released (tells k s) (of_tells k s) (λ w. may_tell k w s) (λ w. tell_fits k w s) held (λ w order. Stops (exit_label n w) (blocking_exits n w order s)) (λ w order. exit_shows n w))
-      (λ c fit. tell_fits k c.waiter s ∙ fit.waiter) (λ w. tt) (λ w good. ap not (same_check n s home w good))
+      (λ c fit. tell_fits k c.waiter s ∙ fit.waiter) (λ w. tt) (λ w good. ap not (same_check n s home w good)) (λ w it. apart w (may_tell k w s) it)
+    where
+      apart : (w : Option ℕ) (b : Bool) → hides (may b (Ordered (held_by_flag (instance_of n s) s) (λ order. Stops (exit_label n w) (blocking_exits n w order s)))) ≡ true → ⊥
+      apart w true it = absurd (grind (arith, it))
+      apart w false it = absurd (grind (arith, it))
 
   module _ (l : Label) (none : choice_of l ≡ no_choice) where
     code_wait : (x : ℕ) (held : List ℕ) (b : Bool) → Picks (releases held nothing) (λ w m. code_wait_rule l n x held s b)
@@ -258,7 +272,7 @@ module _ (n x : ℕ) (s : Core) where
         only c (Some w) is k = absurd k.0
 
         once : (v k : Option ℕ) →
-            ReleasesOnce (may (is_none v) (Continues (mk (Given.Subtask (unwrap_or (event_of sub s) Status.Starting) (unwrap_or k 0)) v) (new v k) n))
+            IsUnordered (may (is_none v) (Continues (mk (Given.Subtask (unwrap_or (event_of sub s) Status.Starting) (unwrap_or k 0)) v) (new v k) n))
         once None k = tt
         once (Some w) k = tt
 
@@ -271,16 +285,20 @@ wait_wakes : (n : ℕ) (v : Given) (w : ℕ) → choice_of (wait_label n v (Some
 wait_wakes n v w = refl
 
 module _ (n : ℕ) (s : Core) where
-  goes_on : (x r : ℕ) → Picks (gives_woken false n x s) (λ w m. or_never (picked_event false (task_of n s) x (chosen n (choosing w m) s) s) (wait_goes_on n x r (choosing w m) s))
+  -- whether `wait` may take Cancelled
+  abbrev may_cancel : Bool
+  may_cancel = waits_cancellable (task_of n s) s
+
+  goes_on : (x r : ℕ) → Picks (gives_woken may_cancel n x s) (λ w m. or_never (picked_event may_cancel (task_of n s) x (chosen n (choosing w m) s) s) (wait_goes_on n x r (choosing w m) s))
   unfolding given_for
-  goes_on x r = given n x s false (own_wakes (has_ready_member x s) x s) (λ w m g. wait_goes_on n x r (choosing w m) s g)
+  goes_on x r = given n x s may_cancel (own_wakes (has_ready_member x s) x s) (λ w m g. wait_goes_on n x r (choosing w m) s g)
       (λ e. own_woken n x s (λ v w. wait_label n v w) (wait_shows n) (wait_wakes n) e _)
       (silent _ refl)
       (λ sub. member_woken n x s (λ v w. wait_label n v w) (wait_shows n) (wait_wakes n) sub _)
 
-  begins : (r x : ℕ) (b : Bool) → Picks (if b then nothing else gives false n x s) (λ w m. wait_begins n r (choosing w m) s x b)
+  begins : (r x : ℕ) (b : Bool) → Picks (if b then nothing else gives may_cancel n x s) (λ w m. wait_begins n r (choosing w m) s x b)
   begins r x true = silent _ (silent_trap_if (not (passes_check (instance_of n s) s)) _ _ refl)
-  begins r x false = gives_picks n x s (λ v. Label.Set (SetLabel.Wait v n)) (λ v. refl) (λ g v. received n r g v s) false
+  begins r x false = gives_picks n x s (λ v. Label.Set (SetLabel.Wait v n)) (λ v. refl) (λ g v. received n r g v s) may_cancel
 
   begins_at : (r h : ℕ) →
       Picks (wait_offer n h s OpProgress.Fresh) (λ w m. scripted_wait_rule n r h (choosing w m) s OpProgress.Fresh)
@@ -314,7 +332,7 @@ op_picks : (c : Component) (n : ℕ) (s : Core) (o : Op) → (HasOpen c → ⊥)
 op_picks c n s (Op.Data o) settled home = silent _ (data_silent c n s o)
 op_picks c n s (Op.Task o) settled home = task_picks n s home o
 op_picks c n s (Op.Set o) settled home = set_picks n s o
-op_picks c n s (Op.Call o) settled home = silent _ (calls_silent c n s o settled)
+op_picks c n s (Op.Call o) settled home = call_picks c n s o settled
 op_picks c n s (Op.Thread o) settled home = silent _ (thread_silent n s c o)
 
 pub rules_choose : RulesChoose

@@ -1,14 +1,12 @@
 -- The ops that choose nothing show none.
 use Rattle.laws_choices.specs.Chooses.{no_choice}
 use Rattle.std.proofs.Common.{refl}
-use Rattle.laws_states.proofs.SettledLemmas.{known_open}
 use Rattle.std.specs.Prelude.{Bool, List, None, Option, Some, false, is_some, nat_le, not, true, ℕ, ◌==◌, ◌≡◌}
 use Rattle.machine_data.specs.Core.{Core}
 use Rattle.machine_data.specs.Labels.{choice_of}
 use Rattle.machine_data.specs.Moves.{passes_check}
-use Rattle.machine_data.specs.Read.{at_handle_limit, backpressure_of, event_of, fits, has_ended, has_member, has_waiters, op_progress_of, instance_of, is_async_lifted, is_joined, is_open, is_watched, join_of, registers_of, subtask_at, subtask_ended, task_of, thread_at, undelivered_end, was_cancelled}
+use Rattle.machine_data.specs.Read.{at_handle_limit, backpressure_of, event_of, fits, has_ended, has_member, has_waiters, op_progress_of, instance_of, is_async_lifted, is_open, is_watched, join_of, subtask_ended, task_of, thread_at, undelivered_end}
 use Rattle.machine_data.specs.Statuses.{status_code}
-use Rattle.machine_data.specs.Write.{set_join}
 use Rattle.machine_data.specs.declared.component.Callee.{Callee}
 use Rattle.machine_data.specs.declared.component.Component.{Component}
 use Rattle.machine_data.specs.declared.component.ExportKind.TheVariants as kind
@@ -21,8 +19,6 @@ use Rattle.machine_data.specs.declared.label.Label.TheVariants as label
 use Rattle.machine_data.specs.declared.label.Label.{Label}
 use Rattle.machine_data.specs.declared.label.ThreadLabel.TheVariants as thread_label
 use Rattle.machine_data.specs.declared.label.ThreadLabel.{ThreadLabel}
-use Rattle.machine_data.specs.declared.op.CallOp.TheVariants as call_op
-use Rattle.machine_data.specs.declared.op.CallOp.{CallOp}
 use Rattle.machine_data.specs.declared.op.DataOp.TheVariants as data_op
 use Rattle.machine_data.specs.declared.op.DataOp.{DataOp}
 use Rattle.machine_data.specs.declared.op.ThreadOp.TheVariants as thread_op
@@ -31,19 +27,17 @@ use Rattle.machine_data.specs.declared.records.Goal.TheVariants as goal
 use Rattle.machine_data.specs.declared.records.Goal.{Goal}
 use Rattle.machine_data.specs.declared.records.OpProgress.TheVariants as op_progress
 use Rattle.machine_data.specs.declared.records.OpProgress.{OpProgress}
-use Rattle.machine_data.specs.declared.records.Join.TheVariants as join
 use Rattle.machine_data.specs.declared.records.Subtask.TheVariants as subtask
 use Rattle.machine_data.specs.declared.records.Subtask.{Subtask}
-use Rattle.machine_data.specs.declared.trap.Trap.TheVariants as trap
 use Rattle.machine_data.specs.declared.trap.Trap.{Trap}
 use Rattle.machine_data.specs.declared.statuses.Status.TheVariants as status
 use Rattle.machine_data.specs.declared.statuses.Status.{Status}
 use Rattle.machine_rules.specs.Calls.{AtOnce, Failing, FirstPoll, Later, call_begins, call_host_polled, call_resumes, scripted_call_rule, call_status, call_sync_begins, call_sync_host_polled, scripted_call_sync_host_rule, scripted_call_sync_rule, call_sync_status, enter_rule, first_polled, polled_first, status_found}
-use Rattle.machine_rules.specs.Cancels.{AlreadyEnded, Async, CallbackWaits, CallbackYields, CancelCase, Mode, OtherwiseRuns, StartNotRun, Sync, after_cancel, cancel_aborts_host, cancel_asks, cancel_by_end, cancel_case, cancel_ended_rule, cancel_found, cancel_guest, cancel_label, cancel_resumed, scripted_cancel_rule, cancel_subtask, cancel_unended_rule, drop_found, scripted_subtask_rule}
+use Rattle.machine_rules.specs.Cancels.{Async, Mode, Sync, after_cancel, cancel_by_end, cancel_ended_rule, cancel_label, cancel_unended_rule, drop_found}
 use Rattle.machine_rules.specs.Data.{data_rule, skip_rule}
 use Rattle.machine_rules.specs.Ends.{direct_exit_to, leaves_no_result, thread_exit_rule}
 use Rattle.machine_rules.specs.Progress.{Progress, or_trap, trap_if}
-use Rattle.machine_rules.specs.Scripts.{HasOpen, export_kind, host_at, slot_at, value_of, values_in}
+use Rattle.machine_rules.specs.Scripts.{export_kind, host_at, slot_at, value_of}
 use Rattle.machine_rules.specs.Sets.{set_drop_found, scripted_set_new_rule}
 use Rattle.machine_rules.specs.Task.{scripted_inc_rule, ret_bad_rule}
 use Rattle.machine_rules.specs.Threads.{Halt, Suspension, Yielding, by_op_progress, scripted_halt_rule, halting, halts, has_yielded, resume_later_found, resume_why, then_promote, then_promote_found, scripted_then_promote_rule, then_resume_found, then_resume_rule, scripted_thread_new_rule, scripted_thread_rule}
@@ -57,7 +51,7 @@ pub silent_or_trap : {X : Type 0} (o : Option X) (t : Trap) (next : X → Progre
 silent_or_trap None t next h = tt
 silent_or_trap (Some x) t next h = h x
 
-cancel_shows_none : (mode : Mode) (n v : ℕ) → choice_of (cancel_label mode n v) ≡ no_choice
+pub cancel_shows_none : (mode : Mode) (n v : ℕ) → choice_of (cancel_label mode n v) ≡ no_choice
 cancel_shows_none Async n v = refl
 cancel_shows_none Sync n v = refl
 
@@ -113,7 +107,7 @@ module _ (n : ℕ) (s : Core) where
   call_status_silent r k status.StartCancelled = silent_trap_if (at_handle_limit s) _ _ refl
   call_status_silent r k status.ReturnCancelled = silent_trap_if (at_handle_limit s) _ _ refl
 
-  call_silent : (c : Component) (r q : ℕ) (e : Callee) (words : List ℕ) (far : OpProgress) → IsSilent (scripted_call_rule c n r q e words s far)
+  pub call_silent : (c : Component) (r q : ℕ) (e : Callee) (words : List ℕ) (far : OpProgress) → IsSilent (scripted_call_rule c n r q e words s far)
   call_silent c r q e words (op_progress.Calls (subtask.Guest k)) = call_status_silent r k (status_found k s)
   call_silent c r q e words _ = call_begins_silent c e (goal.Register q) words
 
@@ -131,12 +125,12 @@ module _ (n : ℕ) (s : Core) where
   sync_begins_silent c e words true = call_begins_silent c e goal.Answer words
   sync_begins_silent c e words false = enter_silent e (export_kind c e) words
 
-  sync_silent : (c : Component) (r : ℕ) (e : Callee) (words : List ℕ) (far : OpProgress) → IsSilent (scripted_call_sync_rule c n r e words s far)
+  pub sync_silent : (c : Component) (r : ℕ) (e : Callee) (words : List ℕ) (far : OpProgress) → IsSilent (scripted_call_sync_rule c n r e words s far)
   sync_silent c r e words (op_progress.Answered v) = refl
   sync_silent c r e words (op_progress.Calls (subtask.Guest k)) = sync_status_silent r k (status_found k s)
   sync_silent c r e words _ = sync_begins_silent c e words (is_async_lifted (export_kind c e))
 
-  host_silent : (r q : ℕ) (x : FirstPoll) → IsSilent (call_host_polled n r q s x)
+  pub host_silent : (r q : ℕ) (x : FirstPoll) → IsSilent (call_host_polled n r q s x)
   host_silent r q (AtOnce v) = refl
   host_silent r q Failing = tt
   host_silent r q (Later host) = silent_trap_if (not (fits 1 s)) _ _ (silent_trap_if (at_handle_limit s) _ _ refl)
@@ -147,18 +141,18 @@ module _ (n : ℕ) (s : Core) where
   sync_host_polled_silent r (Later host) = silent_trap_if (not (fits 1 s)) _ _ (silent_trap_if fails_check _ _ refl)
 
   -- of a host that isn't open
-  first_silent : (host : HostDef) (next : FirstPoll → Progress) → is_open host ≡ false → ((x : FirstPoll) → IsSilent (next x)) → IsSilent (first_polled host next)
+  pub first_silent : (host : HostDef) (next : FirstPoll → Progress) → is_open host ≡ false → ((x : FirstPoll) → IsSilent (next x)) → IsSilent (first_polled host next)
   first_silent (host_def.Settled polls value) next known silent = silent (polled_first polls value)
   first_silent host_def.Open next known silent = absurd (cc)
 
-  sync_host_silent : (c : Component) (r h : ℕ) (far : OpProgress) → is_open (host_at c h) ≡ false → IsSilent (scripted_call_sync_host_rule c n r h s far)
+  pub sync_host_silent : (c : Component) (r h : ℕ) (far : OpProgress) → is_open (host_at c h) ≡ false → IsSilent (scripted_call_sync_host_rule c n r h s far)
   sync_host_silent c r h (op_progress.Calls (subtask.Host i)) known = refl
   sync_host_silent c r h _ known = first_silent (host_at c h) (call_sync_host_polled n r s) known (λ x. sync_host_polled_silent r x)
 
 -- ---- Cancels and drops
 
 module _ (mode : Mode) (n r : ℕ) where
-  ended_silent : (sub : Subtask) (s : Core) (e : Option Status) → IsSilent (cancel_ended_rule mode n r sub s e)
+  pub ended_silent : (sub : Subtask) (s : Core) (e : Option Status) → IsSilent (cancel_ended_rule mode n r sub s e)
   ended_silent sub s None = tt
   ended_silent sub s (Some e) = cancel_shows_none mode n (status_code e)
 
@@ -170,47 +164,14 @@ module _ (mode : Mode) (n r : ℕ) where
   by_end_silent sub s true = ended_silent sub s (undelivered_end (event_of sub s))
   by_end_silent sub s false = unended_silent sub s mode
 
-  after_silent : (sub : Subtask) (s : Core) → IsSilent (after_cancel mode n r sub s)
+  pub after_silent : (sub : Subtask) (s : Core) → IsSilent (after_cancel mode n r sub s)
   after_silent sub s = by_end_silent sub s (subtask_ended sub s)
 
-  guest_silent : (k : ℕ) (s : Core) (x : CancelCase) → IsSilent (cancel_guest mode n r k s x)
-  guest_silent k s AlreadyEnded = ended_silent (subtask.Guest k) s (undelivered_end (event_of (subtask.Guest k) s))
-  guest_silent k s StartNotRun = cancel_shows_none mode n 3
-  guest_silent k s CallbackWaits = refl
-  guest_silent k s CallbackYields = refl
-  guest_silent k s OtherwiseRuns = after_silent (subtask.Guest k) (cancel_asks k s)
-
-  subtask_silent : (s : Core) (sub : Subtask) → IsSilent (cancel_subtask mode n r s sub)
-  subtask_silent s (subtask.Guest k) = guest_silent k s (cancel_case k s)
-  subtask_silent s (subtask.Host i) = silent_trap_if (was_cancelled i s) _ _ (after_silent (subtask.Host i) (cancel_aborts_host i s))
-
-  found_silent : (s : Core) (sub : Subtask) → IsSilent (cancel_found mode n r s sub)
-  found_silent s sub = silent_trap_if (is_joined (join_of sub s)) _ _ (subtask_silent s sub)
-
-  named_silent : (h : ℕ) (s : Core) → IsSilent (or_trap (subtask_at (instance_of n s) h s) trap.BadHandle (cancel_found mode n r s))
-  named_silent h s = silent_or_trap (subtask_at (instance_of n s) h s) _ _ (λ sub. found_silent s sub)
-
-  cancel_silent : (h : ℕ) (s : Core) (far : OpProgress) → IsSilent (scripted_cancel_rule mode n r h s far)
-  cancel_silent h s (op_progress.Cancels sub) = after_silent sub (cancel_resumed n sub s)
-  cancel_silent h s (op_progress.AwaitsEnd sub) =
-      let t = set_join sub join.Nowhere s in ended_silent sub t (undelivered_end (event_of sub t))
-  cancel_silent h s _ = named_silent h s
-
-drop_silent : (n h : ℕ) (s : Core) (sub : Subtask) → IsSilent (drop_found n h s sub)
+pub drop_silent : (n h : ℕ) (s : Core) (sub : Subtask) → IsSilent (drop_found n h s sub)
 drop_silent n h s sub =
     silent_trap_if (is_watched (join_of sub s)) _ _ (
     silent_trap_if (not (subtask_ended sub s)) _ _ (
     silent_trap_if (is_some (event_of sub s)) _ _ refl))
-
-pub calls_silent : (c : Component) (n : ℕ) (s : Core) (o : CallOp) → (HasOpen c → ⊥) → IsSilent (scripted_subtask_rule c n s o)
-calls_silent c n s (call_op.Call r q e xs) settled = call_silent n s c r q e (values_in (registers_of n s) xs) (op_progress_of n s)
-calls_silent c n s (call_op.CallSync r e xs) settled = sync_silent n s c r e (values_in (registers_of n s) xs) (op_progress_of n s)
-calls_silent c n s (call_op.CallHost r q h) settled = first_silent n s (host_at c h) (call_host_polled n r q s) (known_open c settled h) (λ x. host_silent n s r q x)
-calls_silent c n s (call_op.CallSyncHost r h) settled = sync_host_silent n s c r h (op_progress_of n s) (known_open c settled h)
-calls_silent c n s (call_op.Cancel r x) settled = cancel_silent Async n r (value_of n s x) s (op_progress_of n s)
-calls_silent c n s (call_op.CancelSync r x) settled = cancel_silent Sync n r (value_of n s x) s (op_progress_of n s)
-calls_silent c n s (call_op.Drop x) settled =
-    silent_or_trap (subtask_at (instance_of n s) (value_of n s x) s) _ _ (λ sub. drop_silent n (value_of n s x) s sub)
 
 -- ---- Threads
 

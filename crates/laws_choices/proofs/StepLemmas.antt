@@ -1,42 +1,54 @@
 -- Steps and the choices that make them.
 use Rattle.laws_choices.proofs.Forms.{none_fits, shows_none, shows_one, unordered}
 use Rattle.laws_choices.proofs.RulePicks.{rules_choose}
-use Rattle.laws_choices.proofs.TakePicks.{takings_choose}
-use Rattle.laws_choices.specs.Chooses.{Chooses, IsLawful, IsUnordered, MayCome, ReleasesOnce, RulesChoose, ShowsChoice, TakingsChoose, no_choice}
+use Rattle.laws_choices.proofs.TakePicks.{takes_show, takings_choose}
+use Rattle.laws_choices.specs.Chooses.{Chooses, IsLawful, IsUnordered, MayCome, ReleasesOnce, RulesChoose, ShowsChoice, TakingsChoose, hides, no_choice}
 use Rattle.laws_choices.specs.Offer.{Chosen, FitsOffer, Offer, shown}
 use Rattle.laws_choices.specs.Offers.{nothing, of_found, op_offer, take_offer, turn_offer}
-use Rattle.laws_choices.specs.Steps.{ChoiceSteps, FutureBy, IsScripted, MadeIsStep, NothingOpen, PolledBy, ProgressesBy, StepBy, StepChooses, StepDetermined, TakenBy, TurnBy}
+use Rattle.laws_choices.specs.Steps.{ChoiceSteps, FutureBy, IsScripted, MadeIsStep, NothingOpen, PolledBy, ProgressesBy, StepBy, StepChooses, StepDetermined, TakenBy, TurnBy, hides_in, told}
 use Rattle.laws_states.proofs.SettledLemmas.{none_is_asked}
 use Rattle.laws_states.specs.Settled.{NoneIsAsked, is_asked}
 use Rattle.laws_states.specs.Order.{WaitsAtHome}
 use Rattle.machine_data.specs.Labels.{member_of}
-use Rattle.machine_rules.proofs.Machine.{Asked, Asks, HasOpen, Bool, Choice, Core, DeadlockStep, Does, EmptyFor, Ends, Entry, Fails, FailsNow, FuturesStep, Continues, Label, List, Main, MainOpDef, MainPlace, MainProgress, MainProgresses, MainStep, Mark, Never, None, OpenProgresses, Option, Ordered, Pends, Poll, Polled, Progress, Progresses, RestStep, ScriptStep, Scripted, Setting, Some, State, Step, StillPends, Stops, TakeStep, Traps, Turn, TurnStep, Unscripted, [], act_of, advanced_main, ap, at_turn, choice_of, did, entry_number, false, has_moving_work, is_unended_take, line_of, main_rule, may_deadlock, next_entry, next_polled, op_at, op_of, poll_ends, poll_of, poll_pends, popped, refl, set_trapped, subst, sym, take_rule, true, woken_of, ℕ, ◌∙◌, ◌≡◌}
+use Rattle.machine_rules.proofs.Machine.{arith, Asked, Asks, HasOpen, Bool, Choice, Core, DeadlockStep, Does, EmptyFor, Ends, Entry, Fails, FailsNow, FuturesStep, Continues, Label, List, Main, MainOpDef, MainPlace, MainProgress, MainProgresses, MainStep, Mark, Never, None, OpenProgresses, Option, Ordered, Pends, Poll, Polled, Progress, Progresses, RestStep, ScriptStep, Scripted, Setting, Some, State, Step, StillPends, Stops, TakeStep, Traps, Turn, TurnStep, Unscripted, [], act_of, advanced_main, ap, at_turn, choice_of, did, entry_number, false, has_moving_work, is_unended_take, line_of, main_rule, may_deadlock, next_entry, next_polled, op_at, op_of, poll_ends, poll_of, poll_pends, popped, refl, set_trapped, subst, sym, take_rule, true, unwrap_or, woken_of, ℕ, ◌∙◌, ◌≡◌}
+use Rattle.machine_rules.specs.Progress.{OneOf}
 use Rattle.machine_rules.specs.MainOps.{Answers}
 use Rattle.machine_rules.specs.Step.{OpenStep}
 
 no_chosen : Chosen
 no_chosen = record { waiter = None; member = None; release = [] }
 
--- ---- A progress with its order of release
+-- ---- A progress by a choice
+
+-- the label shows what was chosen unless the progress hides it
+told_shown : (b : Bool) (ch : Choice) (c : Chosen) → ch ≡ told b c → b ≡ false → ch ≡ shown c
+told_shown true ch c e none = absurd (grind (arith, none))
+told_shown false ch c e none = e
+
+-- what is taken is what the choice says
+one_taken_by : (c : Chosen) (m k : ℕ) → c.waiter ≡ Some m → c.waiter ≡ Some k → m ≡ k
+one_taken_by c m k one two = ap (λ (o : Option ℕ). unwrap_or o 0) (sym one ∙ two)
 
 module _ (s : State) (base : Core) (n : ℕ) (l : Label) (t : State) where
-  plain_by : (order : List ℕ) (p : Progress) → IsUnordered p → Progresses s base n p l t → ProgressesBy order s base n p l t
-  plain_by order (Continues k new m) un h = h
-  plain_by order (Stops k new) un h = h
-  plain_by order (Traps y) un h = h
-  plain_by order (Fails i) un h = h
-  plain_by order Never un h = h
-  plain_by order (Ordered ns next) un h = absurd un
-  plain_by order (Asks next) un h = absurd un
+  plain_by : (c : Chosen) (p : Progress) → IsUnordered p → Progresses s base n p l t → ProgressesBy c s base n p l t
+  plain_by c (Continues k new m) un h = h
+  plain_by c (Stops k new) un h = h
+  plain_by c (Traps y) un h = h
+  plain_by c (Fails i) un h = h
+  plain_by c Never un h = h
+  plain_by c (Ordered ns next) un h = absurd un
+  plain_by c (OneOf ns next) un h = absurd un
+  plain_by c (Asks next) un h = absurd un
 
-  by_plain : (order : List ℕ) (p : Progress) → IsUnordered p → ProgressesBy order s base n p l t → Progresses s base n p l t
-  by_plain order (Continues k new m) un h = h
-  by_plain order (Stops k new) un h = h
-  by_plain order (Traps y) un h = h
-  by_plain order (Fails i) un h = h
-  by_plain order Never un h = h
-  by_plain order (Ordered ns next) un h = absurd un
-  by_plain order (Asks next) un h = absurd un
+  by_plain : (c : Chosen) (p : Progress) → IsUnordered p → ProgressesBy c s base n p l t → Progresses s base n p l t
+  by_plain c (Continues k new m) un h = h
+  by_plain c (Stops k new) un h = h
+  by_plain c (Traps y) un h = h
+  by_plain c (Fails i) un h = h
+  by_plain c Never un h = h
+  by_plain c (Ordered ns next) un h = absurd un
+  by_plain c (OneOf ns next) un h = absurd un
+  by_plain c (Asks next) un h = absurd un
 
   -- the label shows its own choice
   shows_own : (p : Progress) → IsUnordered p → Progresses s base n p l t → ShowsChoice (choice_of l) p
@@ -46,16 +58,18 @@ module _ (s : State) (base : Core) (n : ℕ) (l : Label) (t : State) where
   shows_own (Fails i) un h = ap choice_of (sym h.0)
   shows_own Never un h = absurd h
   shows_own (Ordered ns next) un h = absurd un
+  shows_own (OneOf ns next) un h = absurd un
   shows_own (Asks next) un h = absurd un
 
-  by_lawful : (order : List ℕ) (p : Progress) → ProgressesBy order s base n p l t → IsLawful p
-  by_lawful order (Continues k new m) h = tt
-  by_lawful order (Stops k new) h = tt
-  by_lawful order (Traps y) h = tt
-  by_lawful order (Fails i) h = tt
-  by_lawful order Never h = absurd h
-  by_lawful order (Ordered ns next) h = tt
-  by_lawful order (Asks next) h = absurd h
+  by_lawful : (c : Chosen) (p : Progress) → ProgressesBy c s base n p l t → IsLawful p
+  by_lawful c (Continues k new m) h = tt
+  by_lawful c (Stops k new) h = tt
+  by_lawful c (Traps y) h = tt
+  by_lawful c (Fails i) h = tt
+  by_lawful c Never h = absurd h
+  by_lawful c (Ordered ns next) h = tt
+  by_lawful c (OneOf ns next) h = tt
+  by_lawful c (Asks next) h = absurd h
 
   plain_lawful : (p : Progress) → Progresses s base n p l t → IsLawful p
   plain_lawful (Continues k new m) h = tt
@@ -64,25 +78,43 @@ module _ (s : State) (base : Core) (n : ℕ) (l : Label) (t : State) where
   plain_lawful (Fails i) h = tt
   plain_lawful Never h = absurd h
   plain_lawful (Ordered ns next) h = tt
+  plain_lawful (OneOf ns next) h = tt
   plain_lawful (Asks next) h = tt
 
   abbrev with_order : List ℕ → Chosen
   with_order order = record { waiter = woken_of l; member = member_of l; release = order }
 
-  -- a progress comes about by the choice that its label shows, and some order
-  came_by : (p : Progress) → ReleasesOnce p → Progresses s base n p l t → (order : List ℕ) × (MayCome (with_order order) p × ProgressesBy order s base n p l t)
-  came_by (Continues k new m) once h = ([], ((ap choice_of (sym h.0), refl), h))
-  came_by (Stops k new) once h = ([], ((ap choice_of (sym h.0), refl), h))
-  came_by (Traps y) once h = ([], ((ap choice_of (sym h.0), refl), h))
-  came_by (Fails i) once h = ([], ((ap choice_of (sym h.0), refl), h))
+  abbrev with_taken : ℕ → Chosen
+  with_taken m = record { waiter = Some m; member = None; release = [] }
+
+  -- the choice comes to the progress, and the label shows it as far as it does
+  abbrev ComesBy : Chosen → Progress → Type 0
+  ComesBy c p = (choice_of l ≡ told (hides p) c) × (MayCome c p × ProgressesBy c s base n p l t)
+
+  -- a progress comes about by the choice that its label shows and some order, or by the thread that was taken
+  came_by : (p : Progress) → ReleasesOnce p → Progresses s base n p l t → (c : Chosen) × ComesBy c p
+  came_by (Continues k new m) once h = (with_order [], (refl, ((ap choice_of (sym h.0), refl), h)))
+  came_by (Stops k new) once h = (with_order [], (refl, ((ap choice_of (sym h.0), refl), h)))
+  came_by (Traps y) once h = (with_order [], (refl, ((ap choice_of (sym h.0), refl), h)))
+  came_by (Fails i) once h = (with_order [], (refl, ((ap choice_of (sym h.0), refl), h)))
   came_by Never once h = absurd h
   came_by (Ordered ns next) once h =
       let order = h.0 in
-      (order, ((h.1.0, shows_own (next order) (once order) h.1.1), plain_by order (next order) (once order) h.1.1))
+      (with_order order, (refl, ((h.1.0, shows_own (next order) (once order) h.1.1), plain_by (with_order order) (next order) (once order) h.1.1)))
+  came_by (OneOf ns next) once h =
+      let m = h.0 in
+      let un = unordered no_choice (next m) (once m) in
+      let c = with_taken m in (
+        c,
+        (
+          shows_one (choice_of l) no_choice (next m) (shows_own (next m) un h.1.1) (once m),
+          ((m, ((refl, h.1.0), (refl, (refl, once m)))), (m, ((refl, h.1.0), plain_by c (next m) un h.1.1))),
+        ),
+      )
   came_by (Asks next) once h = absurd once
 
-  -- what may come about and comes in its order is a progress, and its label shows the choice
-  by_came : (c : Chosen) (p : Progress) → MayCome c p → ProgressesBy c.release s base n p l t → (choice_of l ≡ shown c) × Progresses s base n p l t
+  -- what may come about and comes by the choice is a progress, and its label shows the choice as far as it does
+  by_came : (c : Chosen) (p : Progress) → MayCome c p → ProgressesBy c s base n p l t → (choice_of l ≡ told (hides p) c) × Progresses s base n p l t
   by_came c (Continues k new m) may h = (ap choice_of h.0 ∙ may.0, h)
   by_came c (Stops k new) may h = (ap choice_of h.0 ∙ may.0, h)
   by_came c (Traps y) may h = (ap choice_of h.0 ∙ may.0, h)
@@ -90,64 +122,99 @@ module _ (s : State) (base : Core) (n : ℕ) (l : Label) (t : State) where
   by_came c Never may h = absurd h
   by_came c (Ordered ns next) may h =
       let un = unordered (shown c) (next c.release) may.1 in
-      let plain = by_plain c.release (next c.release) un h in
+      let plain = by_plain c (next c.release) un h in
       (shows_one (choice_of l) (shown c) (next c.release) (shows_own (next c.release) un plain) may.1, (c.release, (may.0, plain)))
+  by_came c (OneOf ns next) may h =
+      let m = h.0 in
+      let shows : ShowsChoice no_choice (next m) = subst (λ k. ShowsChoice no_choice (next k)) (one_taken_by c may.0 m may.1.0.0 h.1.0.0) may.1.1.1.1 in
+      let un = unordered no_choice (next m) shows in
+      let plain = by_plain c (next m) un h.1.1 in
+      (shows_one (choice_of l) no_choice (next m) (shows_own (next m) un plain) shows, (m, (h.1.0.1, plain)))
   by_came c (Asks next) may h = absurd h
 
 module _ (s : State) (base : Core) (n : ℕ) where
   -- what shows a choice leads somewhere
-  reach_plain : (order : List ℕ) (ch : Choice) (p : Progress) → ShowsChoice ch p → (l : Label) × ((t : State) × ProgressesBy order s base n p l t)
-  reach_plain order ch (Continues k new m) h = (_, (_, (refl, refl)))
-  reach_plain order ch (Stops k new) h = (_, (_, (refl, refl)))
-  reach_plain order ch (Traps y) h = (_, (_, (refl, refl)))
-  reach_plain order ch (Fails i) h = (_, (_, (refl, refl)))
-  reach_plain order ch Never h = absurd h
-  reach_plain order ch (Ordered ns next) h = absurd h
-  reach_plain order ch (Asks next) h = absurd h
+  reach_plain : (c : Chosen) (ch : Choice) (p : Progress) → ShowsChoice ch p → (l : Label) × ((t : State) × ProgressesBy c s base n p l t)
+  reach_plain c ch (Continues k new m) h = (_, (_, (refl, refl)))
+  reach_plain c ch (Stops k new) h = (_, (_, (refl, refl)))
+  reach_plain c ch (Traps y) h = (_, (_, (refl, refl)))
+  reach_plain c ch (Fails i) h = (_, (_, (refl, refl)))
+  reach_plain c ch Never h = absurd h
+  reach_plain c ch (Ordered ns next) h = absurd h
+  reach_plain c ch (OneOf ns next) h = absurd h
+  reach_plain c ch (Asks next) h = absurd h
 
-  reach : (c : Chosen) (p : Progress) → MayCome c p → (l : Label) × ((t : State) × ProgressesBy c.release s base n p l t)
-  reach c (Continues k new m) h = reach_plain c.release (shown c) (Continues k new m) h.0
-  reach c (Stops k new) h = reach_plain c.release (shown c) (Stops k new) h.0
-  reach c (Traps y) h = reach_plain c.release (shown c) (Traps y) h.0
-  reach c (Fails i) h = reach_plain c.release (shown c) (Fails i) h.0
+  reach : (c : Chosen) (p : Progress) → MayCome c p → (l : Label) × ((t : State) × ProgressesBy c s base n p l t)
+  reach c (Continues k new m) h = reach_plain c (shown c) (Continues k new m) h.0
+  reach c (Stops k new) h = reach_plain c (shown c) (Stops k new) h.0
+  reach c (Traps y) h = reach_plain c (shown c) (Traps y) h.0
+  reach c (Fails i) h = reach_plain c (shown c) (Fails i) h.0
   reach c Never h = absurd h.0
-  reach c (Ordered ns next) h = reach_plain c.release (shown c) (next c.release) h.1
+  reach c (Ordered ns next) h = reach_plain c (shown c) (next c.release) h.1
+  reach c (OneOf ns next) h = let r = reach_plain c no_choice (next h.0) h.1.1.1.1 in (r.0, (r.1.0, (h.0, (h.1.0, r.1.1))))
   reach c (Asks next) h = absurd h.0
 
-  one_by : (order : List ℕ) (p : Progress) (l k : Label) (t u : State) → ProgressesBy order s base n p l t → ProgressesBy order s base n p k u → (l ≡ k) × (t ≡ u)
-  one_by order (Continues x new m) l k t u h i = (h.0 ∙ sym i.0, h.1 ∙ sym i.1)
-  one_by order (Stops x new) l k t u h i = (h.0 ∙ sym i.0, h.1 ∙ sym i.1)
-  one_by order (Traps y) l k t u h i = (h.0 ∙ sym i.0, h.1 ∙ sym i.1)
-  one_by order (Fails j) l k t u h i = (h.0 ∙ sym i.0, h.1 ∙ sym i.1)
-  one_by order Never l k t u h i = absurd h
-  one_by order (Ordered ns next) l k t u h i = one_by order (next order) l k t u h i
-  one_by order (Asks next) l k t u h i = absurd h
+  one_by : (c : Chosen) (p : Progress) (l k : Label) (t u : State) → ProgressesBy c s base n p l t → ProgressesBy c s base n p k u → (l ≡ k) × (t ≡ u)
+  one_by c (Continues x new m) l k t u h i = (h.0 ∙ sym i.0, h.1 ∙ sym i.1)
+  one_by c (Stops x new) l k t u h i = (h.0 ∙ sym i.0, h.1 ∙ sym i.1)
+  one_by c (Traps y) l k t u h i = (h.0 ∙ sym i.0, h.1 ∙ sym i.1)
+  one_by c (Fails j) l k t u h i = (h.0 ∙ sym i.0, h.1 ∙ sym i.1)
+  one_by c Never l k t u h i = absurd h
+  one_by c (Ordered ns next) l k t u h i = one_by c (next c.release) l k t u h i
+  one_by c (OneOf ns next) l k t u h i = one_by c (next h.0) l k t u h.1.1
+      (subst (λ m. ProgressesBy c s base n (next m) k u) (one_taken_by c i.0 h.0 i.1.0.0 h.1.0.0) i.1.1)
+  one_by c (Asks next) l k t u h i = absurd h
 
   -- main's part stays
-  main_by : (order : List ℕ) (p : Progress) (l : Label) (t : State) → ProgressesBy order s base n p l t → t.main ≡ s.main
+  main_by : (c : Chosen) (p : Progress) (l : Label) (t : State) → ProgressesBy c s base n p l t → t.main ≡ s.main
   unfolding at_turn
-  main_by order (Continues x new m) l t h = ap (λ (u : State). u.main) h.1
-  main_by order (Stops x new) l t h = ap (λ (u : State). u.main) h.1
-  main_by order (Traps y) l t h = ap (λ (u : State). u.main) h.1
-  main_by order (Fails j) l t h = ap (λ (u : State). u.main) h.1
-  main_by order Never l t h = absurd h
-  main_by order (Ordered ns next) l t h = main_by order (next order) l t h
-  main_by order (Asks next) l t h = absurd h
+  main_by c (Continues x new m) l t h = ap (λ (u : State). u.main) h.1
+  main_by c (Stops x new) l t h = ap (λ (u : State). u.main) h.1
+  main_by c (Traps y) l t h = ap (λ (u : State). u.main) h.1
+  main_by c (Fails j) l t h = ap (λ (u : State). u.main) h.1
+  main_by c Never l t h = absurd h
+  main_by c (Ordered ns next) l t h = main_by c (next c.release) l t h
+  main_by c (OneOf ns next) l t h = main_by c (next h.0) l t h.1.1
+  main_by c (Asks next) l t h = absurd h
 
   module _ (o : Offer) (row : Choice → Progress) (picks : Chooses o row) (l : Label) (t : State) where
+    -- whether it hides what is taken doesn't hang on the label
+    hides_alike : (b d : Choice) → hides (row b) ≡ hides (row d)
+    hides_alike b d = by (hides (row b)) (hides (row d)) refl refl
+      where
+        by : (x y : Bool) → hides (row b) ≡ x → hides (row d) ≡ y → hides (row b) ≡ hides (row d)
+        by true y at it = ap hides (sym (picks.takes b d at))
+        by false true at it = ap hides (picks.takes d b it)
+        by false false at it = at ∙ sym it
+
+    -- the rows of a choice and of what the label shows of it are one
+    row_alike : (b : Choice) (c : Chosen) → choice_of l ≡ told (hides (row b)) c → row (shown c) ≡ row (choice_of l)
+    row_alike b c e = by (hides (row b)) refl
+      where
+        by : (x : Bool) → hides (row b) ≡ x → row (shown c) ≡ row (choice_of l)
+        by true it = picks.takes b (shown c) it ∙ sym (picks.takes b (choice_of l) it)
+        by false it = ap row (sym (told_shown (hides (row b)) (choice_of l) c e it))
+
     rule_chooses : Progresses s base n (row (choice_of l)) l t →
-        (c : Chosen) × (FitsOffer c o × ((choice_of l ≡ shown c) × ProgressesBy c.release s base n (row (shown c)) l t))
+        (c : Chosen) × (FitsOffer c o × ((choice_of l ≡ told (hides (row no_choice)) c) × ProgressesBy c s base n (row (shown c)) l t))
     rule_chooses h =
         let r = came_by s base n l t (row (choice_of l)) (picks.once (choice_of l)) h in
-        let c = with_order s base n l t r.0 in (c, (picks.only c r.1.0, (refl, r.1.1)))
+        let c = r.0 in
+        let same = row_alike (choice_of l) c r.1.0 in (
+          c,
+          (
+            picks.only c (subst (λ p. MayCome c p) (sym same) r.1.1.0),
+            (subst (λ b. choice_of l ≡ told b c) (hides_alike (choice_of l) no_choice) r.1.0, subst (λ p. ProgressesBy c s base n p l t) (sym same) r.1.1.1),
+          ),
+        )
 
-    rule_makes : (c : Chosen) → FitsOffer c o → ProgressesBy c.release s base n (row (shown c)) l t →
-        Progresses s base n (row (choice_of l)) l t × (choice_of l ≡ shown c)
+    rule_makes : (c : Chosen) → FitsOffer c o → ProgressesBy c s base n (row (shown c)) l t →
+        Progresses s base n (row (choice_of l)) l t × (choice_of l ≡ told (hides (row no_choice)) c)
     rule_makes c fit h =
-        let r = by_came s base n l t c (row (shown c)) (picks.each (shown c) c (by_lawful s base n l t c.release (row (shown c)) h) fit) h in
-        (subst (λ ch. Progresses s base n (row ch) l t) (sym r.0) r.1, r.0)
+        let r = by_came s base n l t c (row (shown c)) (picks.each (shown c) c (by_lawful s base n l t c (row (shown c)) h) fit) h in
+        (subst (λ p. Progresses s base n p l t) (row_alike (shown c) c r.0) r.1, subst (λ b. choice_of l ≡ told b c) (hides_alike (shown c) no_choice) r.0)
 
-    rule_steps : Progresses s base n (row (choice_of l)) l t → (c : Chosen) → FitsOffer c o → (k : Label) × ((u : State) × ProgressesBy c.release s base n (row (shown c)) k u)
+    rule_steps : Progresses s base n (row (choice_of l)) l t → (c : Chosen) → FitsOffer c o → (k : Label) × ((u : State) × ProgressesBy c s base n (row (shown c)) k u)
     rule_steps h c fit = reach c (row (shown c)) (picks.each (choice_of l) c (plain_lawful s base n l t (row (choice_of l)) h) fit)
 
 -- ---- Turns that choose nothing
@@ -245,14 +312,16 @@ module _ (x : Setting) (s : State) where
   took None l t h = let r = silent_chooses l (empty_none x s l t (has_moving_work s.core) h) in (no_chosen, (r.0, (r.1, h)))
   took (Some e) l t h =
       let base = popped e.0 s.core in
-      rule_chooses s base (entry_number e.1) (take_offer base e.1) (λ ch. take_rule e.0 ch base e.1) (takes_choose e.0 e.1 base) l t h
+      let r = rule_chooses s base (entry_number e.1) (take_offer base e.1) (λ ch. take_rule e.0 ch base e.1) (takes_choose e.0 e.1 base) l t h in
+      (r.0, (r.1.0, (told_shown _ (choice_of l) r.0 r.1.1.0 (takes_show e.0 no_choice e.1 base), r.1.1.1)))
 
   take_makes : (o : Option (Mark × Entry)) (c : Chosen) → FitsOffer c (of_found o (λ e. take_offer (popped e.0 s.core) e.1)) → (l : Label) (t : State) → TakenBy x c s o l t →
       TakeStep x s o l t × (choice_of l ≡ shown c)
   take_makes None c fit l t h = (h, empty_none x s l t (has_moving_work s.core) h ∙ (shows_none c fit).0)
   take_makes (Some e) c fit l t h =
       let base = popped e.0 s.core in
-      rule_makes s base (entry_number e.1) (take_offer base e.1) (λ ch. take_rule e.0 ch base e.1) (takes_choose e.0 e.1 base) l t c fit h
+      let r = rule_makes s base (entry_number e.1) (take_offer base e.1) (λ ch. take_rule e.0 ch base e.1) (takes_choose e.0 e.1 base) l t c fit h in
+      (r.0, told_shown _ (choice_of l) c r.1 (takes_show e.0 no_choice e.1 base))
 
   take_steps : (o : Option (Mark × Entry)) (k : Label) (u : State) → TakeStep x s o k u → (c : Chosen) → FitsOffer c (of_found o (λ e. take_offer (popped e.0 s.core) e.1)) →
       (l : Label) × ((t : State) × TakenBy x c s o l t)
@@ -263,7 +332,7 @@ module _ (x : Setting) (s : State) where
 
   module _ (settled : HasOpen x.component → ⊥) (home : WaitsAtHome s.core) where
     turn_chooses : ((i : ℕ) → is_asked (poll_of i s.core) ≡ false) → (p : Turn) (l : Label) (t : State) → TurnStep x s p l t →
-        (c : Chosen) × (FitsOffer c (turn_offer x s.core p) × ((choice_of l ≡ shown c) × TurnBy x c s p l t))
+        (c : Chosen) × (FitsOffer c (turn_offer x s.core p) × ((choice_of l ≡ told (hides_in x s p) c) × TurnBy x c s p l t))
     turn_chooses known Turn.Main l t h = let r = silent_chooses l (mains_none x s l t s.main h) in (no_chosen, (r.0, (r.1, h)))
     turn_chooses known (Turn.Futures n) l t h = let r = silent_chooses l (futures_none x s l t (next_polled n s.core) h) in (no_chosen, (r.0, (r.1, by_future x s l t known (next_polled n s.core) h)))
     turn_chooses known (Turn.Take ended) l t h = took (next_entry s.core) l t h
@@ -271,7 +340,7 @@ module _ (x : Setting) (s : State) where
         rule_chooses s s.core n (op_offer n s.core (op_of x.component n s.core)) (λ ch. did x.component n s.core ch) (ops_choose x n s.core settled home) l t h
     turn_chooses known Turn.Over l t h = absurd h
 
-    turn_makes : (p : Turn) (c : Chosen) → FitsOffer c (turn_offer x s.core p) → (l : Label) (t : State) → TurnBy x c s p l t → TurnStep x s p l t × (choice_of l ≡ shown c)
+    turn_makes : (p : Turn) (c : Chosen) → FitsOffer c (turn_offer x s.core p) → (l : Label) (t : State) → TurnBy x c s p l t → TurnStep x s p l t × (choice_of l ≡ told (hides_in x s p) c)
     turn_makes Turn.Main c fit l t h = (h, mains_none x s l t s.main h ∙ (shows_none c fit).0)
     turn_makes (Turn.Futures n) c fit l t h = let step = future_by x s l t (next_polled n s.core) h in (step, futures_none x s l t (next_polled n s.core) step ∙ (shows_none c fit).0)
     turn_makes (Turn.Take ended) c fit l t h = take_makes (next_entry s.core) c fit l t h
@@ -348,13 +417,13 @@ module _ (x : Setting) (s : State) (l k : Label) (t u : State) where
     one_taken : (o : Option (Mark × Entry)) → TakenBy x c s o l t → TakenBy x c s o k u → Pair l t k u
     one_taken None h i = one_empty (has_moving_work s.core) h i
     one_taken (Some e) h i =
-        let base = popped e.0 s.core in one_by s base (entry_number e.1) c.release (take_rule e.0 (shown c) base e.1) l k t u h i
+        let base = popped e.0 s.core in one_by s base (entry_number e.1) c (take_rule e.0 (shown c) base e.1) l k t u h i
 
     one_turn : IsScripted s.main → (p : Turn) → TurnBy x c s p l t → TurnBy x c s p k u → Pair l t k u
     one_turn scripted Turn.Main h i = one_mains s.main scripted h i
     one_turn scripted (Turn.Futures n) h i = one_future (next_polled n s.core) h i
     one_turn scripted (Turn.Take ended) h i = one_taken (next_entry s.core) h i
-    one_turn scripted (Turn.Run n) h i = one_by s s.core n c.release (did x.component n s.core (shown c)) l k t u h i
+    one_turn scripted (Turn.Run n) h i = one_by s s.core n c (did x.component n s.core (shown c)) l k t u h i
     one_turn scripted Turn.Over h i = absurd h
 
 pub step_determined : StepDetermined
@@ -404,8 +473,8 @@ module _ (x : Setting) (s : State) (l : Label) (t : State) where
   empty_led false scripted h = deadlock_led (may_deadlock x s) scripted h
 
   module _ (c : Chosen) where
-    by_led : (base : Core) (n : ℕ) (p : Progress) → IsScripted s.main → ProgressesBy c.release s base n p l t → IsScripted t.main
-    by_led base n p scripted h = subst IsScripted (sym (main_by s base n c.release p l t h)) scripted
+    by_led : (base : Core) (n : ℕ) (p : Progress) → IsScripted s.main → ProgressesBy c s base n p l t → IsScripted t.main
+    by_led base n p scripted h = subst IsScripted (sym (main_by s base n c p l t h)) scripted
 
     taken_led : (o : Option (Mark × Entry)) → IsScripted s.main → TakenBy x c s o l t → IsScripted t.main
     taken_led None scripted h = empty_led (has_moving_work s.core) scripted h

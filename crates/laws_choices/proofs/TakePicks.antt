@@ -1,10 +1,10 @@
 -- What the rules of takings choose among.
 use Rattle.laws_choices.proofs.Forms.{IsSilent, OfWaiters, Picks, chooses, choosing, given, silent, trapped, woken}
 use Rattle.laws_choices.proofs.RulePicks.{member_woken, nobody, of_joined, of_tells, own_wakes, own_woken, publish_fits, tell_fits}
-use Rattle.laws_choices.specs.Chooses.{TakingsChoose}
+use Rattle.laws_choices.specs.Chooses.{TakingsChoose, hides}
 use Rattle.laws_choices.specs.Offer.{is_one_of}
 use Rattle.laws_choices.specs.Offers.{delivery_offer, gives_woken, nothing, start_offer, starting_offer, take_offer, tells, thread_offer, unless, wakes_in, why_offer}
-use Rattle.machine_rules.proofs.Machine.{Bool, Core, Delivery, Entry, Mark, Never, None, Option, TaskEvent, Place, Some, Subtask, Why, admits, at_handle_limit, choice_of, chosen, delivery_rule, event_label, false, picked_event, given_for, has_ready_member, held_label, host_label, if◌then◌else◌, is_explicit, is_none, join_of, may_publish, may_tell, may_tell_starting, or_never, own_delivered, picked_task_event_of, picked_task_event_only, own_or_nothing, place_of, refl, set_delivered, start_admitted, start_rule, starting_is_published, take_label, take_rule, task_of, thread_taken, thread_taken_for, true, ℕ, ◌≡◌}
+use Rattle.machine_rules.proofs.Machine.{Bool, Core, Delivery, Entry, Mark, Never, None, Option, TaskEvent, Place, Some, Subtask, Why, admits, at_handle_limit, choice_of, chosen, delivery_rule, event_label, false, picked_event, given_for, has_ready_member, held_label, host_label, if◌then◌else◌, is_explicit, is_none, join_of, may_publish, may_tell, may_tell_starting, or_never, own_delivered, picked_task_event_of, picked_task_event_only, own_or_nothing, place_of, refl, set_delivered, start_admitted, start_rule, starting_is_published, take_label, take_rule, task_of, thread_taken, thread_taken_for, true, ℕ, ◌≡◌, Progress, PickedEvent, NothingPicked, PickedTaskEvent, PickedMember, Trap, may, may_hand_on, trap_if, Choice}
 
 take_shows : (m : Mark) (n : ℕ) (w : Option ℕ) → choice_of (take_label m n w) ≡ choosing w None
 take_shows m n None = refl
@@ -86,3 +86,51 @@ take_picks m (Entry.Host i) s =
 pub takings_choose : TakingsChoose
 unfolding TakingsChoose
 takings_choose m e s = chooses {row = λ ch. take_rule m ch s e} (take_picks m e s)
+
+-- ---- No taking hides what it takes
+
+may_shows : (b : Bool) (p : Progress) → hides p ≡ false → hides (may b p) ≡ false
+may_shows true p h = h
+may_shows false p h = refl
+
+or_shows : {X : Type 0} (o : Option X) (next : X → Progress) → ((x : X) → hides (next x) ≡ false) → hides (or_never o next) ≡ false
+or_shows None next h = refl
+or_shows (Some x) next h = h x
+
+trap_shows : (b : Bool) (t : Trap) (p : Progress) → hides p ≡ false → hides (trap_if b t p) ≡ false
+trap_shows true t p h = refl
+trap_shows false t p h = h
+
+module _ (m : Mark) (n : ℕ) (ch : Choice) (s : Core) where
+  admitted_shows : (b : Bool) → hides (start_admitted m n ch.woken s b) ≡ false
+  admitted_shows true = refl
+  admitted_shows false = trap_shows (at_handle_limit s) _ _ (may_shows (may_tell (task_of n s) ch.woken s) _ refl)
+
+  start_shows : (b : Bool) → hides (start_rule m n ch.woken s b) ≡ false
+  start_shows true = admitted_shows (is_explicit n s)
+  start_shows false = may_shows (may_tell_starting (task_of n s) ch.woken s) _ refl
+
+  set_shows : (x : ℕ) (g : PickedEvent) → hides (set_delivered m n x ch s g) ≡ false
+  set_shows x NothingPicked = refl
+  set_shows x (PickedTaskEvent e) = may_shows (may_hand_on x (PickedTaskEvent e) ch.woken s) _ refl
+  set_shows x (PickedMember sub) = may_shows (may_hand_on x (PickedMember sub) ch.woken s) _ refl
+
+  delivery_shows : (d : Delivery) (b : Bool) → hides (delivery_rule m n ch s d b) ≡ false
+  delivery_shows (Delivery.Set x) true = or_shows (picked_event true (task_of n s) x (chosen n ch s) s) _ (set_shows x)
+  delivery_shows Delivery.Yield true = refl
+  delivery_shows Delivery.Cancel true = refl
+  delivery_shows d false = refl
+
+  why_shows : (y : Why) → hides (thread_taken_for m n ch s y) ≡ false
+  why_shows Why.Start = start_shows (admits n s Why.Start)
+  why_shows (Why.Delivery d) = delivery_shows d (admits n s (Why.Delivery d))
+  why_shows Why.Resumption = refl
+
+  thread_shows : (p : Option Place) → hides (thread_taken m n ch s p) ≡ false
+  thread_shows (Some (Place.Ready x y)) = why_shows y
+  thread_shows _ = refl
+
+pub takes_show : (m : Mark) (ch : Choice) (e : Entry) (s : Core) → hides (take_rule m ch s e) ≡ false
+takes_show m ch (Entry.Thread n) s = thread_shows m n ch s (place_of n s)
+takes_show m ch (Entry.Push i) s = refl
+takes_show m ch (Entry.Host i) s = may_shows (may_publish (Subtask.Host i) ch.woken s) _ refl

@@ -6,14 +6,14 @@ use Rattle.std.specs.Prelude.{Bool, Option, Some, false, true, ℕ, ◌==◌}
 use Rattle.machine_data.specs.Read.{same_subtask}
 use Rattle.machine_data.specs.declared.records.Subtask.TheVariants as subtask
 use Rattle.machine_data.specs.declared.records.Subtask.{Subtask}
-use Rattle.machine_rules.specs.Picks.{member_or, subtask_before, thread_before, waiter_or}
+use Rattle.machine_rules.specs.Picks.{member_or, subtask_before, waiter_or}
 
 pub wanted_is_woken : WantedIsWoken
 unfolding WantedIsWoken
 wanted_is_woken p s w v first is waits = by (v == w) refl
   where
     o : Bool
-    o = thread_before p.seats v w
+    o = p.earlier v w
 
     before : cond (v == w) false (cond (v == v) true o) ≡ false
     before = ap (λ (x : Option ℕ). waiter_or x v w o) (sym is) ∙ first.first v waits

@@ -1,7 +1,7 @@
 -- What rules choose among, in both directions: what their labels can show, and what is offered.
 use Rattle.laws_choices.specs.Offer.{Chosen, FitsOffer, Offer, shown}
 use Rattle.laws_choices.specs.Offers.{op_offer, take_offer}
-use Rattle.std.specs.Prelude.{IsPermutation, List, None, [], ℕ, ◌≡◌}
+use Rattle.std.specs.Prelude.{Bool, IsPermutation, List, None, Some, [], false, true, ℕ, ◌≡◌}
 use Rattle.laws_states.specs.Order.{WaitsAtHome}
 use Rattle.machine_data.specs.Core.{Core}
 use Rattle.machine_data.specs.Labels.{Choice, choice_of}
@@ -9,9 +9,9 @@ use Rattle.machine_data.specs.declared.component.Component.{Component}
 use Rattle.machine_data.specs.declared.op.Op.{Op}
 use Rattle.machine_data.specs.declared.records.Entry.{Entry}
 use Rattle.machine_data.specs.declared.statuses.Mark.{Mark}
-use Rattle.machine_rules.specs.Progress.{Asks, Fails, Continues, Never, Ordered, Progress, Stops, Traps}
+use Rattle.machine_rules.specs.Progress.{Asks, Fails, Continues, Never, OneOf, Ordered, Progress, Stops, Traps}
 use Rattle.machine_rules.specs.Scripts.{HasOpen}
-use Rattle.machine_rules.specs.Step.{scripted_op_rule}
+use Rattle.machine_rules.specs.Step.{is_among, scripted_op_rule}
 use Rattle.machine_rules.specs.Takes.{take_rule}
 
 -- nothing is woken, and no member's event is taken
@@ -26,10 +26,18 @@ ShowsChoice ch (Traps t) = no_choice ≡ ch
 ShowsChoice ch (Fails i) = no_choice ≡ ch
 ShowsChoice ch Never = ⊥
 ShowsChoice ch (Ordered ns next) = ⊥
+ShowsChoice ch (OneOf ns next) = ⊥
 ShowsChoice ch (Asks next) = ⊥
 
--- the step may come about so: its label shows what was chosen, and threads are released in the chosen order, where any are
+-- a cancel takes this thread, where it takes one of several
+abbrev pub TakesChosen : Chosen → List ℕ → ℕ → Type 0
+TakesChosen c ns m = (c.waiter ≡ Some m) × (is_among m ns ≡ true)
+
+-- the step may come about so: its label shows what was chosen, but for a thread that a cancel takes, and threads are released in the chosen
+-- order, where any are
 abbrev pub MayCome : Chosen → Progress → Type 0
+MayCome c (OneOf ns next) =
+    (m : ℕ) × (TakesChosen c ns m × ((c.member ≡ None) × ((c.release ≡ []) × ShowsChoice no_choice (next m))))
 MayCome c (Ordered ns next) = IsPermutation ns c.release × ShowsChoice (shown c) (next c.release)
 MayCome c p = ShowsChoice (shown c) p × (c.release ≡ [])
 
@@ -38,24 +46,32 @@ abbrev pub IsLawful : Progress → Type 0
 IsLawful Never = ⊥
 IsLawful _ = Unit {0}
 
--- no order is left to it, and no answer of an open work
+-- no order is left to it, no thread that a cancel takes, and no answer of an open work
 abbrev pub IsUnordered : Progress → Type 0
 IsUnordered (Ordered ns next) = ⊥
+IsUnordered (OneOf ns next) = ⊥
 IsUnordered (Asks next) = ⊥
 IsUnordered _ = Unit {0}
 
--- it releases threads once at most, and asks no open work
+-- it takes one of several threads, which its label doesn't show
+abbrev pub hides : Progress → Bool
+hides (OneOf ns next) = true
+hides _ = false
+
+-- it releases threads once at most, or takes one of several and shows nothing, and asks no open work
 abbrev pub ReleasesOnce : Progress → Type 0
 ReleasesOnce (Ordered ns next) = (order : List ℕ) → IsUnordered (next order)
+ReleasesOnce (OneOf ns next) = (m : ℕ) → ShowsChoice no_choice (next m)
 ReleasesOnce (Asks next) = ⊥
 ReleasesOnce _ = Unit {0}
 
 -- The rule chooses among what is offered. What a lawful label shows fits the offer; where some label is lawful, each choice that fits is
--- shown by a lawful one.
+-- shown by a lawful one. Where it takes one of several threads, that doesn't hang on what a label shows.
 pub record Chooses (o : Offer) (row : Choice → Progress) : Type 0 where
   pub only : (c : Chosen) → MayCome c (row (shown c)) → FitsOffer c o
   pub each : (b : Choice) (c : Chosen) → IsLawful (row b) → FitsOffer c o → MayCome c (row (shown c))
   pub once : (b : Choice) → ReleasesOnce (row b)
+  pub takes : (b d : Choice) → hides (row b) ≡ true → row d ≡ row b
 
 -- the rules of all ops do, where threads wait on sets of their own instances and no host is open: what an open one answers is no choice that
 -- a list could make

@@ -4,8 +4,11 @@ use Rattle.std.specs.Option.{option_map_or}
 use Rattle.std.specs.Prelude.{Bool, List, None, Option, Some, [], filter, false, if◌then◌else◌, is_some, nat_lt, not, suc, true, zero, ℕ, ◌%◌, ◌*◌, ◌+◌, ◌/◌}
 use Rattle.machine_data.specs.Core.{Core, State}
 use Rattle.machine_data.specs.Maps.{get, numbers}
-use Rattle.machine_data.specs.Moves.{picked_task_event_of}
-use Rattle.machine_data.specs.Read.{admits, at_handle_limit, backpressure_of, cancel_was_delivered, event_of, foot_of, goal_of, has_ended, has_ready_member, op_progress_of, instance_of, is_async_lifted, is_direct, is_explicit, is_ready_member, is_waiter, is_watched, join_of, kind_of, next_entry, place_of, set_at, subtask_at, task_of}
+use Rattle.machine_data.specs.Moves.{picked_task_event_of, waits_cancellable}
+use Rattle.machine_data.specs.declared.op.CallOp.TheVariants as call_op
+use Rattle.machine_data.specs.declared.op.CallOp.{CallOp}
+use Rattle.machine_rules.specs.Cancels.{CancelCase, ThreadWaits, cancel_case, cancellable}
+use Rattle.machine_data.specs.Read.{admits, at_handle_limit, backpressure_of, cancel_was_delivered, event_of, foot_of, goal_of, has_ended, has_ready_member, op_progress_of, instance_of, is_async_lifted, is_direct, is_explicit, is_joined, is_ready_member, is_waiter, is_watched, join_of, kind_of, next_entry, place_of, set_at, subtask_at, task_of}
 use Rattle.machine_data.specs.declared.component.ExportKind.TheVariants as kind
 use Rattle.machine_data.specs.declared.component.ExportKind.{ExportKind}
 use Rattle.machine_data.specs.declared.op.Op.TheVariants as op
@@ -154,8 +157,8 @@ task_offer n s _ = nothing
 
 -- resumed inside it, or as it begins, where it takes only what is there
 abbrev pub wait_offer : ℕ → ℕ → Core → OpProgress → Offer
-wait_offer n h s (op_progress.Waits x) = gives_woken false n x s
-wait_offer n h s _ = of_found (set_at (instance_of n s) h s) (λ x. if finds_nothing n x s then nothing else gives false n x s)
+wait_offer n h s (op_progress.Waits x) = gives_woken (waits_cancellable (task_of n s) s) n x s
+wait_offer n h s _ = of_found (set_at (instance_of n s) h s) (λ x. if finds_nothing n x s then nothing else gives (waits_cancellable (task_of n s) s) n x s)
 
 abbrev pub poll_offer : ℕ → ℕ → Core → Offer
 poll_offer n h s = of_found (set_at (instance_of n s) h s) (λ x. gives false n x s)
@@ -181,10 +184,33 @@ set_offer n s (set_op.Poll r x) = poll_offer n (value_of n s x) s
 set_offer n s (set_op.Join x y) = join_offer n (value_of n s x) (value_of n s y) s
 set_offer n s _ = nothing
 
+-- ---- Cancels
+
+-- one of the threads that wait is taken, where the cancel comes to that
+abbrev pub cancel_offer_by : ℕ → Core → CancelCase → Offer
+cancel_offer_by k s ThreadWaits = record { waiters = cancellable k s; members = []; held = [] }
+cancel_offer_by k s _ = nothing
+
+abbrev pub cancel_found_offer : Core → Subtask → Offer
+cancel_found_offer s (subtask.Guest k) = unless (is_joined (join_of (subtask.Guest k) s)) (cancel_offer_by k s (cancel_case k s))
+cancel_found_offer s (subtask.Host i) = nothing
+
+-- as it begins
+abbrev pub cancel_offer : ℕ → ℕ → Core → OpProgress → Offer
+cancel_offer n h s (op_progress.Cancels sub) = nothing
+cancel_offer n h s (op_progress.AwaitsEnd sub) = nothing
+cancel_offer n h s _ = of_found (subtask_at (instance_of n s) h s) (cancel_found_offer s)
+
+abbrev pub call_offer : ℕ → Core → CallOp → Offer
+call_offer n s (call_op.Cancel r x) = cancel_offer n (value_of n s x) s (op_progress_of n s)
+call_offer n s (call_op.CancelSync r x) = cancel_offer n (value_of n s x) s (op_progress_of n s)
+call_offer n s _ = nothing
+
 -- the other ops choose nothing
 abbrev pub op_offer : ℕ → Core → Op → Offer
 op_offer n s (op.Task o) = task_offer n s o
 op_offer n s (op.Set o) = set_offer n s o
+op_offer n s (op.Call o) = call_offer n s o
 op_offer n s _ = nothing
 
 -- ---- Takings

@@ -1,7 +1,10 @@
 -- What is played is a run.
-use Rattle.std.proofs.Common.{T, ap, ap₂, eqb→eq, ltb→lt, refl, subst, sym}
+use Rattle.machine_rules.specs.Step.{is_among}
+use Rattle.machine_rules.specs.Works.{first_number}
+use Rattle.std.proofs.Common.{T, ap, ap₂, eq-eqb, eqb→eq, ltb→lt, refl, subst, sym}
 use Rattle.std.specs.List.Sorted.{SwapsInRange, apply_swaps}
-use Rattle.std.specs.Prelude.{Bool, List, None, Option, Some, [], false, length, nat_lt, true, ℕ, ◌&&◌, ◌+◌, ◌∷◌, ◌≡◌}
+use Rattle.std.specs.Option.{option_and_then}
+use Rattle.std.specs.Prelude.{Bool, List, None, Option, Some, [], false, length, nat_lt, true, ℕ, ◌&&◌, ◌+◌, ◌∷◌, ◌≡◌, ◌||◌}
 use Rattle.machine_data.specs.declared.records.Entry.{Entry}
 use Rattle.machine_data.specs.declared.label.Label.{Label}
 use Rattle.machine_data.specs.declared.scenario.MainOpDef.{MainOpDef}
@@ -17,7 +20,7 @@ use Rattle.machine_data.specs.Moves.{ended}
 use Rattle.machine_data.specs.Read.{next_entry}
 use Rattle.machine_rules.specs.MainOps.{Answers, Does, MainProgress, Pends, act_of, line_of, main_rule, op_at}
 use Rattle.machine_rules.specs.Outcome.{outcome_of}
-use Rattle.machine_rules.specs.Progress.{Asks, Fails, Continues, Never, Ordered, Progress, Stops, Traps}
+use Rattle.machine_rules.specs.Progress.{Asks, Fails, Continues, Never, OneOf, Ordered, Progress, Stops, Traps}
 use Rattle.machine_rules.specs.Run.{Run, opens}
 use Rattle.machine_rules.specs.Stalled.{Setting, is_unended_take, may_deadlock, setting_of}
 use Rattle.machine_rules.specs.Step.{DeadlockStep, EmptyFor, FuturesStep, MainProgresses, MainStep, Polled, Progresses, RestStep, RunStep, ScriptStep, Step, TakeStep, TurnStep, did, entry_number}
@@ -66,6 +69,14 @@ ordered_ran s base n ns next ps true e None h = tt
 ordered_ran s base n ns next ps true e (Some x) h = (apply_swaps ns ps, (record { moves = ps; below = in_range_is (length ns) ps e; is = refl }, h))
 ordered_ran s base n ns next ps false e y h = tt
 
+one_ran : (s : State) (base : Core) (n : ℕ) (ns : List ℕ) (next : ℕ → Progress) (ps : Swaps) → ((m : ℕ) → Ran s base n (next m) (ran s base n ps (next m))) → Ran s base n (OneOf ns next) (option_and_then (λ m. ran s base n ps (next m)) (first_number ns))
+one_ran s base n [] next ps h = tt
+one_ran s base n (m ∷ ns) next ps h = by (ran s base n ps (next m)) (h m)
+  where
+    by : (y : Next) → Ran s base n (next m) y → Ran s base n (OneOf (m ∷ ns) next) y
+    by None k = tt
+    by (Some x) k = (m, (ap (λ b. b || is_among m ns) (eq-eqb m m refl), k))
+
 ran_is : (s : State) (base : Core) (n : ℕ) (ps : Swaps) (p : Progress) → Ran s base n p (ran s base n ps p)
 ran_is s base n ps (Continues l new m) = (refl, refl)
 ran_is s base n ps (Stops l new) = (refl, refl)
@@ -74,6 +85,7 @@ ran_is s base n ps (Fails i) = (refl, refl)
 ran_is s base n ps Never = tt
 ran_is s base n ps (Asks next) = tt
 ran_is s base n ps (Ordered ns next) = ordered_ran s base n ns next ps (in_range (length ns) ps) refl _ (ran_is s base n ps (next (apply_swaps ns ps)))
+ran_is s base n ps (OneOf ns next) = one_ran s base n ns next ps (λ m. ran_is s base n ps (next m))
 
 -- a step that was made with a choice, where its label shows the choice
 abbrev Chosen : State → Core → ℕ → (Choice → Progress) → Next → Type 0

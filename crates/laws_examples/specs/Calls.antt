@@ -1,6 +1,7 @@
 -- Scenarios, and the labels of their runs.
 use Rattle.std.specs.Prelude.{List, [], replicate, ◌∷◌}
 use Rattle.machine_data.specs.declared.label.Label.{Label}
+use Rattle.machine_data.specs.declared.scenario.Version.TheVariants as version
 use Rattle.machine_data.specs.declared.scenario.ScenarioDef.{ScenarioDef}
 use Rattle.machine_data.specs.declared.scenario.IdleLine.TheVariants as idle_line
 use Rattle.machine_data.specs.declared.component.ExportKind.TheVariants as kind
@@ -21,6 +22,7 @@ use Rattle.machine_data.specs.declared.statuses.Given.TheVariants as given
 -- a: f
 abbrev pub callback_returns_its_parameter : ScenarioDef
 callback_returns_its_parameter = record {
+  version = version.One;
   handles = 100000;
   table = 1000000;
   idle = idle_line.Trap;
@@ -48,6 +50,7 @@ callback_returns_its_parameter_run = (callback_returns_its_parameter, callback_r
 -- a: f
 abbrev pub exit_without_return_traps : ScenarioDef
 exit_without_return_traps = record {
+  version = version.One;
   handles = 100000;
   table = 1000000;
   idle = idle_line.Trap;
@@ -75,6 +78,7 @@ exit_without_return_traps_run = (exit_without_return_traps, exit_without_return_
 -- a: f
 abbrev pub run_stops_when_steps_are_used_up : ScenarioDef
 run_stops_when_steps_are_used_up = record {
+  version = version.One;
   handles = 100000;
   table = 1000000;
   idle = idle_line.Trap;
@@ -102,6 +106,7 @@ run_stops_when_steps_are_used_up_run = (run_stops_when_steps_are_used_up, run_st
 -- a: f
 abbrev pub second_return_traps : ScenarioDef
 second_return_traps = record {
+  version = version.One;
   handles = 100000;
   table = 1000000;
   idle = idle_line.Trap;
@@ -137,6 +142,7 @@ second_return_traps_run = (second_return_traps, second_return_traps_labels)
 -- a: f
 abbrev pub return_of_the_wrong_type_traps : ScenarioDef
 return_of_the_wrong_type_traps = record {
+  version = version.One;
   handles = 100000;
   table = 1000000;
   idle = idle_line.Trap;
@@ -165,6 +171,7 @@ return_of_the_wrong_type_traps_run = (return_of_the_wrong_type_traps, return_of_
 -- a: f
 abbrev pub return_of_the_wrong_type_after_an_end_traps : ScenarioDef
 return_of_the_wrong_type_after_an_end_traps = record {
+  version = version.One;
   handles = 100000;
   table = 1000000;
   idle = idle_line.Trap;
@@ -202,6 +209,7 @@ return_of_the_wrong_type_after_an_end_traps_run =
 -- a: f
 abbrev pub main_waits_until_an_instance_lets_calls_in : ScenarioDef
 main_waits_until_an_instance_lets_calls_in = record {
+  version = version.One;
   handles = 9;
   table = 90;
   idle = idle_line.Trap;
@@ -237,6 +245,7 @@ main_waits_until_an_instance_lets_calls_in_run =
 -- a: shut, f, open
 abbrev pub held_starts_are_released_in_either_order : ScenarioDef
 held_starts_are_released_in_either_order = record {
+  version = version.One;
   handles = 9;
   table = 90;
   idle = idle_line.Trap;

@@ -1,6 +1,7 @@
 -- Scenarios, and the labels of their runs.
 use Rattle.std.specs.Prelude.{List, [], replicate, ◌∷◌}
 use Rattle.machine_data.specs.declared.label.Label.{Label}
+use Rattle.machine_data.specs.declared.scenario.Version.TheVariants as version
 use Rattle.machine_data.specs.declared.scenario.ScenarioDef.{ScenarioDef}
 use Rattle.machine_data.specs.declared.label.CallLabel.TheVariants as call_label
 use Rattle.machine_data.specs.declared.op.CallOp.TheVariants as call_op
@@ -26,6 +27,7 @@ use Rattle.machine_data.specs.declared.trap.Trap.TheVariants as trap
 -- a: f; b: g
 abbrev pub cancel_of_a_subtask_joined_to_a_set_traps : ScenarioDef
 cancel_of_a_subtask_joined_to_a_set_traps = record {
+  version = version.One;
   handles = 100000;
   table = 1000000;
   idle = idle_line.Trap;
@@ -71,6 +73,7 @@ cancel_of_a_subtask_joined_to_a_set_traps_run =
 -- a: up, down, f; b: g
 abbrev pub cancel_withdraws_a_held_start : ScenarioDef
 cancel_withdraws_a_held_start = record {
+  version = version.One;
   handles = 100000;
   table = 1000000;
   idle = idle_line.Trap;
@@ -133,6 +136,7 @@ cancel_withdraws_a_held_start_run = (cancel_withdraws_a_held_start, cancel_withd
 -- a: f; b: g
 abbrev pub sync_cancel_of_a_waiting_callback : ScenarioDef
 sync_cancel_of_a_waiting_callback = record {
+  version = version.One;
   handles = 100000;
   table = 1000000;
   idle = idle_line.Trap;
@@ -179,6 +183,7 @@ sync_cancel_of_a_waiting_callback_run = (sync_cancel_of_a_waiting_callback, sync
 -- a: f
 abbrev pub task_cancel_without_a_request_traps : ScenarioDef
 task_cancel_without_a_request_traps = record {
+  version = version.One;
   handles = 100000;
   table = 1000000;
   idle = idle_line.Trap;

@@ -1,6 +1,7 @@
 -- Scenarios, and the labels of their runs.
 use Rattle.std.specs.Prelude.{List, [], replicate, ◌∷◌}
 use Rattle.machine_data.specs.declared.label.Label.{Label}
+use Rattle.machine_data.specs.declared.scenario.Version.TheVariants as version
 use Rattle.machine_data.specs.declared.scenario.ScenarioDef.{ScenarioDef}
 use Rattle.machine_data.specs.declared.component.ExportKind.TheVariants as kind
 use Rattle.machine_data.specs.declared.component.Slot.TheVariants as slot
@@ -28,6 +29,7 @@ use Rattle.machine_data.specs.declared.statuses.Mark.TheVariants as mark
 -- a: s, w, x
 abbrev pub exit_of_a_stackful_export_with_nothing_to_promote_traps : ScenarioDef
 exit_of_a_stackful_export_with_nothing_to_promote_traps = record {
+  version = version.One;
   handles = 100000;
   table = 1000000;
   idle = idle_line.Trap;
@@ -74,6 +76,7 @@ exit_of_a_stackful_export_with_nothing_to_promote_traps_run =
 -- a: s, w, f
 abbrev pub exit_of_a_blocking_export_with_nothing_to_promote_traps : ScenarioDef
 exit_of_a_blocking_export_with_nothing_to_promote_traps = record {
+  version = version.One;
   handles = 100000;
   table = 1000000;
   idle = idle_line.Trap;
@@ -116,6 +119,7 @@ exit_of_a_blocking_export_with_nothing_to_promote_traps_run =
 -- a: s, w, f; b: d
 abbrev pub exit_of_a_direct_call_with_nothing_to_promote_traps : ScenarioDef
 exit_of_a_direct_call_with_nothing_to_promote_traps = record {
+  version = version.One;
   handles = 100000;
   table = 1000000;
   idle = idle_line.Trap;
@@ -168,6 +172,7 @@ exit_of_a_direct_call_with_nothing_to_promote_traps_run =
 -- a: s, w, x
 abbrev pub suspend_with_nothing_to_promote_traps : ScenarioDef
 suspend_with_nothing_to_promote_traps = record {
+  version = version.One;
   handles = 100000;
   table = 1000000;
   idle = idle_line.Trap;
@@ -199,6 +204,7 @@ suspend_with_nothing_to_promote_traps_run = (suspend_with_nothing_to_promote_tra
 -- a: h; b: s
 abbrev pub sync_call_of_a_waiting_callee_with_nothing_to_promote_traps : ScenarioDef
 sync_call_of_a_waiting_callee_with_nothing_to_promote_traps = record {
+  version = version.One;
   handles = 100000;
   table = 1000000;
   idle = idle_line.Trap;
@@ -245,6 +251,7 @@ sync_call_of_a_waiting_callee_with_nothing_to_promote_traps_run =
 -- a: h; b: s
 abbrev pub sync_cancel_with_nothing_to_promote_traps : ScenarioDef
 sync_cancel_with_nothing_to_promote_traps = record {
+  version = version.One;
   handles = 100000;
   table = 1000000;
   idle = idle_line.Trap;
@@ -292,6 +299,7 @@ sync_cancel_with_nothing_to_promote_traps_run =
 -- a: f
 abbrev pub callback_wait_on_no_set_traps : ScenarioDef
 callback_wait_on_no_set_traps = record {
+  version = version.One;
   handles = 100000;
   table = 1000000;
   idle = idle_line.Trap;

@@ -1,6 +1,7 @@
 -- Scenarios, and the labels of their runs.
 use Rattle.std.specs.Prelude.{List, [], replicate, ◌∷◌}
 use Rattle.machine_data.specs.declared.label.Label.{Label}
+use Rattle.machine_data.specs.declared.scenario.Version.TheVariants as version
 use Rattle.machine_data.specs.declared.scenario.ScenarioDef.{ScenarioDef}
 use Rattle.machine_data.specs.declared.label.CallLabel.TheVariants as call_label
 use Rattle.machine_data.specs.declared.op.CallOp.TheVariants as call_op
@@ -27,6 +28,7 @@ use Rattle.machine_data.specs.declared.trap.Trap.TheVariants as trap
 -- a: f
 abbrev pub backpressure_lowered_below_zero_traps : ScenarioDef
 backpressure_lowered_below_zero_traps = record {
+  version = version.One;
   handles = 100000;
   table = 1000000;
   idle = idle_line.Trap;
@@ -54,6 +56,7 @@ backpressure_lowered_below_zero_traps_run = (backpressure_lowered_below_zero_tra
 -- a: s; b: g
 abbrev pub direct_sync_call_answers_its_result : ScenarioDef
 direct_sync_call_answers_its_result = record {
+  version = version.One;
   handles = 100000;
   table = 1000000;
   idle = idle_line.Trap;
@@ -94,6 +97,7 @@ direct_sync_call_answers_its_result_run = (direct_sync_call_answers_its_result, 
 -- a: up, down, f; b: g
 abbrev pub held_start_runs_when_backpressure_falls_to_zero : ScenarioDef
 held_start_runs_when_backpressure_falls_to_zero = record {
+  version = version.One;
   handles = 100000;
   table = 1000000;
   idle = idle_line.Trap;
@@ -157,6 +161,7 @@ held_start_runs_when_backpressure_falls_to_zero_run =
 -- a: s; b: g; c: m
 abbrev pub outer_caller_is_resumed_while_a_direct_callee_blocks : ScenarioDef
 outer_caller_is_resumed_while_a_direct_callee_blocks = record {
+  version = version.One;
   handles = 100000;
   table = 1000000;
   idle = idle_line.Trap;

@@ -1,6 +1,7 @@
 -- Scenarios, and the labels of their runs.
 use Rattle.std.specs.Prelude.{List, None, Some, [], replicate, ◌∷◌}
 use Rattle.machine_data.specs.declared.label.Label.{Label}
+use Rattle.machine_data.specs.declared.scenario.Version.TheVariants as version
 use Rattle.machine_data.specs.declared.scenario.ScenarioDef.{ScenarioDef}
 use Rattle.machine_data.specs.declared.label.CallLabel.TheVariants as call_label
 use Rattle.machine_data.specs.declared.op.CallOp.TheVariants as call_op
@@ -31,6 +32,7 @@ use Rattle.machine_data.specs.declared.component.HostDef.TheVariants as host_def
 -- a: f
 abbrev pub async_host_calls_ready_at_once_and_later : ScenarioDef
 async_host_calls_ready_at_once_and_later = record {
+  version = version.One;
   handles = 100000;
   table = 1000000;
   idle = idle_line.Trap;
@@ -68,6 +70,7 @@ async_host_calls_ready_at_once_and_later_run = (async_host_calls_ready_at_once_a
 -- no instance
 abbrev pub awaited_never_ending_spawn_is_idle : ScenarioDef
 awaited_never_ending_spawn_is_idle = record {
+  version = version.One;
   handles = 100000;
   table = 1000000;
   idle = idle_line.Trap;
@@ -91,6 +94,7 @@ awaited_never_ending_spawn_is_idle_run = (awaited_never_ending_spawn_is_idle, aw
 -- no instance
 abbrev pub failing_spawn_fails_the_run : ScenarioDef
 failing_spawn_fails_the_run = record {
+  version = version.One;
   handles = 100000;
   table = 1000000;
   idle = idle_line.Trap;
@@ -113,6 +117,7 @@ failing_spawn_fails_the_run_run = (failing_spawn_fails_the_run, failing_spawn_fa
 -- a: f
 abbrev pub live_never_ending_spawn_is_idle_under_idle_trap : ScenarioDef
 live_never_ending_spawn_is_idle_under_idle_trap = record {
+  version = version.One;
   handles = 100000;
   table = 1000000;
   idle = idle_line.Trap;
@@ -149,6 +154,7 @@ live_never_ending_spawn_is_idle_under_idle_trap_run =
 -- a: f
 abbrev pub live_never_ending_spawn_is_idle_under_idle_wait : ScenarioDef
 live_never_ending_spawn_is_idle_under_idle_wait = record {
+  version = version.One;
   handles = 100000;
   table = 1000000;
   idle = idle_line.Wait;
@@ -185,6 +191,7 @@ live_never_ending_spawn_is_idle_under_idle_wait_run =
 -- no instance
 abbrev pub main_aborts_a_never_ending_spawn : ScenarioDef
 main_aborts_a_never_ending_spawn = record {
+  version = version.One;
   handles = 100000;
   table = 1000000;
   idle = idle_line.Trap;
@@ -210,6 +217,7 @@ main_aborts_a_never_ending_spawn_run = (main_aborts_a_never_ending_spawn, main_a
 -- a: f
 abbrev pub set_drop_with_a_member_and_no_waiter_traps : ScenarioDef
 set_drop_with_a_member_and_no_waiter_traps = record {
+  version = version.One;
   handles = 100000;
   table = 1000000;
   idle = idle_line.Trap;
@@ -245,6 +253,7 @@ set_drop_with_a_member_and_no_waiter_traps_run =
 -- a: f
 abbrev pub sync_host_calls_are_answered_at_once_and_later : ScenarioDef
 sync_host_calls_are_answered_at_once_and_later = record {
+  version = version.One;
   handles = 9;
   table = 90;
   idle = idle_line.Trap;
@@ -281,6 +290,7 @@ sync_host_calls_are_answered_at_once_and_later_run =
 -- no instance
 abbrev pub abort_answers_the_phase_that_it_found : ScenarioDef
 abort_answers_the_phase_that_it_found = record {
+  version = version.One;
   handles = 9;
   table = 90;
   idle = idle_line.Trap;

@@ -1,6 +1,7 @@
 -- Scenarios, and the labels of their runs.
 use Rattle.std.specs.Prelude.{List, Some, [], replicate, ◌∷◌}
 use Rattle.machine_data.specs.declared.label.Label.{Label}
+use Rattle.machine_data.specs.declared.scenario.Version.TheVariants as version
 use Rattle.machine_data.specs.declared.scenario.ScenarioDef.{ScenarioDef}
 use Rattle.machine_data.specs.declared.scenario.IdleLine.TheVariants as idle_line
 use Rattle.machine_data.specs.declared.component.ExportKind.TheVariants as kind
@@ -22,6 +23,7 @@ use Rattle.machine_data.specs.declared.component.HostDef.TheVariants as host_def
 -- a: f
 abbrev pub full_table_refuses_a_start_and_the_run_goes_on : ScenarioDef
 full_table_refuses_a_start_and_the_run_goes_on = record {
+  version = version.One;
   handles = 100000;
   table = 7;
   idle = idle_line.Trap;
@@ -54,6 +56,7 @@ full_table_refuses_a_start_and_the_run_goes_on_run =
 -- a: f
 abbrev pub handle_limit_one_suffices_for_one_thread : ScenarioDef
 handle_limit_one_suffices_for_one_thread = record {
+  version = version.One;
   handles = 1;
   table = 1000000;
   idle = idle_line.Trap;
@@ -81,6 +84,7 @@ handle_limit_one_suffices_for_one_thread_run = (handle_limit_one_suffices_for_on
 -- a: f
 abbrev pub handle_limit_zero_traps_the_first_start : ScenarioDef
 handle_limit_zero_traps_the_first_start = record {
+  version = version.One;
   handles = 0;
   table = 1000000;
   idle = idle_line.Trap;
@@ -108,6 +112,7 @@ handle_limit_zero_traps_the_first_start_run = (handle_limit_zero_traps_the_first
 -- a: f
 abbrev pub small_table_refuses_the_only_start : ScenarioDef
 small_table_refuses_the_only_start = record {
+  version = version.One;
   handles = 100000;
   table = 3;
   idle = idle_line.Trap;
@@ -135,6 +140,7 @@ small_table_refuses_the_only_start_run = (small_table_refuses_the_only_start, sm
 -- a: f
 abbrev pub full_table_traps_a_pending_host_call : ScenarioDef
 full_table_traps_a_pending_host_call = record {
+  version = version.One;
   handles = 9;
   table = 4;
   idle = idle_line.Trap;

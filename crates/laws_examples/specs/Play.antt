@@ -1,5 +1,6 @@
 -- The runs of the machine, computed. The rules are the machine's own; a label that a run is to show tells its choices.
 use Rattle.std.specs.List.Sorted.{apply_swaps}
+use Rattle.std.specs.Option.{option_and_then}
 use Rattle.std.specs.Prelude.{Bool, List, None, Option, Some, [], false, if◌then◌else◌, length, nat_lt, true, ℕ, ◌&&◌, ◌+◌, ◌==◌, ◌∷◌}
 use Rattle.machine_data.specs.declared.records.Entry.{Entry}
 use Rattle.machine_data.specs.declared.label.Label.{Label}
@@ -20,9 +21,10 @@ use Rattle.machine_data.specs.Read.{next_entry}
 use Rattle.machine_data.specs.Write.{set_trapped}
 use Rattle.machine_rules.specs.MainOps.{Answers, Does, MainProgress, Pends, act_of, advanced_main, line_of, main_rule, op_at}
 use Rattle.machine_rules.specs.Outcome.{IsOutcome}
-use Rattle.machine_rules.specs.Progress.{Asks, Fails, Continues, Never, Ordered, Progress, Stops, Traps}
+use Rattle.machine_rules.specs.Progress.{Asks, Fails, Continues, Never, Ordered, Progress, Stops, Traps, OneOf}
 use Rattle.machine_rules.specs.Run.{Run, opens}
 use Rattle.machine_rules.specs.Stalled.{Setting, deadlock_trap, is_unended_take, may_deadlock, setting_of}
+use Rattle.machine_rules.specs.Works.{first_number}
 use Rattle.machine_rules.specs.Step.{did, entry_number, unwound, trap_label}
 use Rattle.machine_rules.specs.Takes.{popped, take_rule}
 use Rattle.machine_rules.specs.Turns.{at_turn, goes_to}
@@ -63,6 +65,7 @@ ran s base n ps (Traps t) = Some (trap_label n t, goes_to s (unwound n base) tur
 ran s base n ps (Fails i) = Some (label.Call (call_label.Fails n i), goes_to s (unwound n base) turn.Over)
 ran s base n ps Never = None
 ran s base n ps (Asks next) = None
+ran s base n ps (OneOf ns next) = option_and_then (λ m. ran s base n ps (next m)) (first_number ns)
 ran s base n ps (Ordered ns next) = if_fits (in_range (length ns) ps) (ran s base n ps (next (apply_swaps ns ps)))
 
 abbrev pub main_did : State → MainPlace → MainOpDef → MainProgress → Next

@@ -1,6 +1,7 @@
 -- Scenarios, and the labels of their runs.
 use Rattle.std.specs.Prelude.{List, Some, [], replicate, ◌∷◌}
 use Rattle.machine_data.specs.declared.label.Label.{Label}
+use Rattle.machine_data.specs.declared.scenario.Version.TheVariants as version
 use Rattle.machine_data.specs.declared.scenario.ScenarioDef.{ScenarioDef}
 use Rattle.machine_data.specs.declared.label.CallLabel.TheVariants as call_label
 use Rattle.machine_data.specs.declared.op.CallOp.TheVariants as call_op
@@ -29,6 +30,7 @@ use Rattle.machine_data.specs.declared.component.HostDef.TheVariants as host_def
 -- db: get; api: do; edge: req
 abbrev pub generated_scenario_of_one_request_runs_to_done : ScenarioDef
 generated_scenario_of_one_request_runs_to_done = record {
+  version = version.One;
   handles = 100000;
   table = 1000000;
   idle = idle_line.Trap;

@@ -1,6 +1,7 @@
 -- Scenarios, and the labels of their runs.
 use Rattle.std.specs.Prelude.{List, [], replicate, ◌∷◌}
 use Rattle.machine_data.specs.declared.label.Label.{Label}
+use Rattle.machine_data.specs.declared.scenario.Version.TheVariants as version
 use Rattle.machine_data.specs.declared.scenario.ScenarioDef.{ScenarioDef}
 use Rattle.machine_data.specs.declared.scenario.IdleLine.TheVariants as idle_line
 use Rattle.machine_data.specs.declared.component.ExportKind.TheVariants as kind
@@ -22,6 +23,7 @@ use Rattle.machine_data.specs.declared.trap.Trap.TheVariants as trap
 -- a: f
 abbrev pub callback_wait_on_empty_set_deadlocks : ScenarioDef
 callback_wait_on_empty_set_deadlocks = record {
+  version = version.One;
   handles = 100000;
   table = 1000000;
   idle = idle_line.Trap;
@@ -55,6 +57,7 @@ callback_wait_on_empty_set_deadlocks_run = (callback_wait_on_empty_set_deadlocks
 -- a: f
 abbrev pub callback_wait_on_empty_set_is_idle_under_idle_wait : ScenarioDef
 callback_wait_on_empty_set_is_idle_under_idle_wait = record {
+  version = version.One;
   handles = 100000;
   table = 1000000;
   idle = idle_line.Wait;
@@ -92,6 +95,7 @@ callback_wait_on_empty_set_is_idle_under_idle_wait_run =
 -- a: f
 abbrev pub freed_set_handle_is_given_again_up_to_the_limit : ScenarioDef
 freed_set_handle_is_given_again_up_to_the_limit = record {
+  version = version.One;
   handles = 2;
   table = 1000000;
   idle = idle_line.Trap;
@@ -127,6 +131,7 @@ freed_set_handle_is_given_again_up_to_the_limit_run =
 -- a: f
 abbrev pub handle_limit_one_stops_the_first_set : ScenarioDef
 handle_limit_one_stops_the_first_set = record {
+  version = version.One;
   handles = 1;
   table = 1000000;
   idle = idle_line.Trap;
@@ -161,6 +166,7 @@ handle_limit_one_stops_the_first_set_run = (handle_limit_one_stops_the_first_set
 -- a: f
 abbrev pub handle_limit_zero_stops_the_start : ScenarioDef
 handle_limit_zero_stops_the_start = record {
+  version = version.One;
   handles = 0;
   table = 1000000;
   idle = idle_line.Trap;
@@ -196,6 +202,7 @@ handle_limit_zero_stops_the_start_run = (handle_limit_zero_stops_the_start, hand
 -- a: f
 abbrev pub unknown_callback_code_traps : ScenarioDef
 unknown_callback_code_traps = record {
+  version = version.One;
   handles = 100000;
   table = 1000000;
   idle = idle_line.Trap;

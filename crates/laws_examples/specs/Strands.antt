@@ -1,6 +1,7 @@
 -- Scenarios, and the labels of their runs.
 use Rattle.std.specs.Prelude.{List, [], replicate, ◌∷◌}
 use Rattle.machine_data.specs.declared.label.Label.{Label}
+use Rattle.machine_data.specs.declared.scenario.Version.TheVariants as version
 use Rattle.machine_data.specs.declared.scenario.ScenarioDef.{ScenarioDef}
 use Rattle.machine_data.specs.declared.label.DataLabel.TheVariants as data_label
 use Rattle.machine_data.specs.declared.op.DataOp.TheVariants as data_op
@@ -26,6 +27,7 @@ use Rattle.machine_data.specs.declared.trap.Trap.TheVariants as trap
 -- a: f
 abbrev pub return_in_a_sync_export_traps : ScenarioDef
 return_in_a_sync_export_traps = record {
+  version = version.One;
   handles = 100000;
   table = 1000000;
   idle = idle_line.Trap;
@@ -54,6 +56,7 @@ return_in_a_sync_export_traps_run = (return_in_a_sync_export_traps, return_in_a_
 -- a: f
 abbrev pub sync_export_answers_its_first_register : ScenarioDef
 sync_export_answers_its_first_register = record {
+  version = version.One;
   handles = 100000;
   table = 1000000;
   idle = idle_line.Trap;
@@ -81,6 +84,7 @@ sync_export_answers_its_first_register_run = (sync_export_answers_its_first_regi
 -- a: g, f
 abbrev pub sync_wait_promotes_a_yield_then_deadlock_nine : ScenarioDef
 sync_wait_promotes_a_yield_then_deadlock_nine = record {
+  version = version.One;
   handles = 100000;
   table = 1000000;
   idle = idle_line.Trap;
@@ -119,6 +123,7 @@ sync_wait_promotes_a_yield_then_deadlock_nine_run =
 -- a: g, f
 abbrev pub sync_wait_promotes_a_yield_whose_exit_then_traps : ScenarioDef
 sync_wait_promotes_a_yield_whose_exit_then_traps = record {
+  version = version.One;
   handles = 100000;
   table = 1000000;
   idle = idle_line.Trap;
@@ -156,6 +161,7 @@ sync_wait_promotes_a_yield_whose_exit_then_traps_run =
 -- a: g, f
 abbrev pub wait_in_sync_export_with_nothing_to_promote_traps : ScenarioDef
 wait_in_sync_export_with_nothing_to_promote_traps = record {
+  version = version.One;
   handles = 100000;
   table = 1000000;
   idle = idle_line.Trap;
@@ -191,6 +197,7 @@ wait_in_sync_export_with_nothing_to_promote_traps_run =
 -- a: f
 abbrev pub wait_on_empty_set_deadlocks : ScenarioDef
 wait_on_empty_set_deadlocks = record {
+  version = version.One;
   handles = 100000;
   table = 1000000;
   idle = idle_line.Trap;
@@ -228,6 +235,7 @@ wait_on_empty_set_deadlocks_run = (wait_on_empty_set_deadlocks, wait_on_empty_se
 -- a: f
 abbrev pub wait_on_empty_set_is_idle_under_idle_wait : ScenarioDef
 wait_on_empty_set_is_idle_under_idle_wait = record {
+  version = version.One;
   handles = 100000;
   table = 1000000;
   idle = idle_line.Wait;

@@ -1,6 +1,7 @@
 -- Scenarios, and the labels of their runs.
 use Rattle.std.specs.Prelude.{List, Some, [], replicate, ◌∷◌}
 use Rattle.machine_data.specs.declared.label.Label.{Label}
+use Rattle.machine_data.specs.declared.scenario.Version.TheVariants as version
 use Rattle.machine_data.specs.declared.scenario.ScenarioDef.{ScenarioDef}
 use Rattle.machine_data.specs.declared.component.ExportKind.TheVariants as kind
 use Rattle.machine_data.specs.declared.component.Slot.TheVariants as slot
@@ -31,6 +32,7 @@ use Rattle.machine_data.specs.declared.component.HostDef.TheVariants as host_def
 -- a: s, f, y; b: c, d
 abbrev pub cancel_of_a_yield_that_stands_at_switch : ScenarioDef
 cancel_of_a_yield_that_stands_at_switch = record {
+  version = version.One;
   handles = 100000;
   table = 1000000;
   idle = idle_line.Trap;
@@ -99,6 +101,7 @@ cancel_of_a_yield_that_stands_at_switch_run = (cancel_of_a_yield_that_stands_at_
 -- a: s, f, y; b: c, d
 abbrev pub cancel_of_a_yield_that_stands_at_high : ScenarioDef
 cancel_of_a_yield_that_stands_at_high = record {
+  version = version.One;
   handles = 100000;
   table = 1000000;
   idle = idle_line.Trap;
@@ -169,6 +172,7 @@ cancel_of_a_yield_that_stands_at_high_run = (cancel_of_a_yield_that_stands_at_hi
 -- a: f
 abbrev pub cancel_of_a_host_call_whose_entry_was_not_taken_leaves_its_value : ScenarioDef
 cancel_of_a_host_call_whose_entry_was_not_taken_leaves_its_value = record {
+  version = version.One;
   handles = 100000;
   table = 1000000;
   idle = idle_line.Trap;
@@ -215,6 +219,7 @@ cancel_of_a_host_call_whose_entry_was_not_taken_leaves_its_value_run = (
 -- a: h; b: f
 abbrev pub cancel_after_the_end_was_taken_traps : ScenarioDef
 cancel_after_the_end_was_taken_traps = record {
+  version = version.One;
   handles = 100000;
   table = 1000000;
   idle = idle_line.Trap;
@@ -267,6 +272,7 @@ cancel_after_the_end_was_taken_traps_run = (cancel_after_the_end_was_taken_traps
 -- a: h; b: f
 abbrev pub drop_before_the_end_was_taken_traps : ScenarioDef
 drop_before_the_end_was_taken_traps = record {
+  version = version.One;
   handles = 100000;
   table = 1000000;
   idle = idle_line.Trap;
@@ -316,6 +322,7 @@ drop_before_the_end_was_taken_traps_run = (drop_before_the_end_was_taken_traps, 
 -- a: h; b: f
 abbrev pub task_cancel_after_a_return_traps : ScenarioDef
 task_cancel_after_a_return_traps = record {
+  version = version.One;
   handles = 100000;
   table = 1000000;
   idle = idle_line.Trap;
@@ -360,6 +367,7 @@ task_cancel_after_a_return_traps_run = (task_cancel_after_a_return_traps, task_c
 -- a: f
 abbrev pub set_drop_with_a_waiter_traps : ScenarioDef
 set_drop_with_a_waiter_traps = record {
+  version = version.One;
   handles = 100000;
   table = 1000000;
   idle = idle_line.Trap;
@@ -400,6 +408,7 @@ set_drop_with_a_waiter_traps_run = (set_drop_with_a_waiter_traps, set_drop_with_
 -- b: shut, open, s, c; a: f
 abbrev pub caller_is_woken_by_a_start_and_by_ends : ScenarioDef
 caller_is_woken_by_a_start_and_by_ends = record {
+  version = version.One;
   handles = 9;
   table = 90;
   idle = idle_line.Trap;

@@ -1,6 +1,7 @@
 -- Scenarios, and the labels of their runs.
 use Rattle.std.specs.Prelude.{List, Some, [], replicate, ◌∷◌}
 use Rattle.machine_data.specs.declared.label.Label.{Label}
+use Rattle.machine_data.specs.declared.scenario.Version.TheVariants as version
 use Rattle.machine_data.specs.declared.scenario.ScenarioDef.{ScenarioDef}
 use Rattle.machine_data.specs.declared.label.CallLabel.TheVariants as call_label
 use Rattle.machine_data.specs.declared.op.CallOp.TheVariants as call_op
@@ -29,6 +30,7 @@ use Rattle.machine_data.specs.declared.component.HostDef.TheVariants as host_def
 -- a: f; b: g
 abbrev pub join_of_a_subtask_under_sync_cancel_traps : ScenarioDef
 join_of_a_subtask_under_sync_cancel_traps = record {
+  version = version.One;
   handles = 100000;
   table = 1000000;
   idle = idle_line.Trap;
@@ -81,6 +83,7 @@ join_of_a_subtask_under_sync_cancel_traps_run =
 -- a: g
 abbrev pub set_drop_with_a_woken_waiter_that_has_not_run_traps : ScenarioDef
 set_drop_with_a_woken_waiter_that_has_not_run_traps = record {
+  version = version.One;
   handles = 100000;
   table = 1000000;
   idle = idle_line.Trap;
@@ -121,6 +124,7 @@ set_drop_with_a_woken_waiter_that_has_not_run_traps_run =
 -- a: f
 abbrev pub thread_new_from_a_bad_slot_traps : ScenarioDef
 thread_new_from_a_bad_slot_traps = record {
+  version = version.One;
   handles = 100000;
   table = 1000000;
   idle = idle_line.Trap;
@@ -155,6 +159,7 @@ thread_new_from_a_bad_slot_traps_run = (thread_new_from_a_bad_slot_traps, thread
 -- a: f
 abbrev pub thread_new_from_a_slot_without_a_line_traps : ScenarioDef
 thread_new_from_a_slot_without_a_line_traps = record {
+  version = version.One;
   handles = 100000;
   table = 1000000;
   idle = idle_line.Trap;
@@ -189,6 +194,7 @@ thread_new_from_a_slot_without_a_line_traps_run =
 -- a: f
 abbrev pub thread_that_resumes_itself_traps : ScenarioDef
 thread_that_resumes_itself_traps = record {
+  version = version.One;
   handles = 100000;
   table = 1000000;
   idle = idle_line.Trap;
@@ -224,6 +230,7 @@ thread_that_resumes_itself_traps_run = (thread_that_resumes_itself_traps, thread
 -- a: g
 abbrev pub woken_thread_whose_event_was_taken_waits_again : ScenarioDef
 woken_thread_whose_event_was_taken_waits_again = record {
+  version = version.One;
   handles = 100000;
   table = 1000000;
   idle = idle_line.Trap;
@@ -268,6 +275,7 @@ woken_thread_whose_event_was_taken_waits_again_run =
 -- a: f
 abbrev pub yield_then_promote_of_an_unstarted_thread_is_a_plain_yield : ScenarioDef
 yield_then_promote_of_an_unstarted_thread_is_a_plain_yield = record {
+  version = version.One;
   handles = 100000;
   table = 1000000;
   idle = idle_line.Trap;
@@ -305,6 +313,7 @@ yield_then_promote_of_an_unstarted_thread_is_a_plain_yield_run =
 -- a: f
 abbrev pub threads_hand_each_other_the_turn : ScenarioDef
 threads_hand_each_other_the_turn = record {
+  version = version.One;
   handles = 9;
   table = 90;
   idle = idle_line.Trap;

@@ -1,4 +1,5 @@
 -- A core whose threads don't have their places.
+use Rattle.machine_data.specs.declared.scenario.Version.TheVariants as version
 use Rattle.std.specs.Prelude.{None, [], false, replicate, ◌∷◌}
 use Rattle.machine_data.specs.Core.{Core, fresh, nothing_made}
 use Rattle.machine_data.specs.Maps.{from_entries}
@@ -14,7 +15,7 @@ thread_at_place p = record (new_thread 1 false script.Start (replicate 16 0) Non
 
 -- thread 1 is behind thread 2, but not among its callers
 abbrev pub behind_and_no_caller : Core
-behind_and_no_caller = record (fresh 1 100 100) {
+behind_and_no_caller = record (fresh version.One 1 100 100) {
   threads = from_entries ((1, thread_at_place (place.Behind 2)) ∷ (2, thread_at_place place.Running) ∷ []);
   made = record nothing_made { threads = 2 };
 }

@@ -1,6 +1,7 @@
 -- Scenarios, and the labels of their runs.
 use Rattle.std.specs.Prelude.{List, Some, [], replicate, ◌∷◌}
 use Rattle.machine_data.specs.declared.label.Label.{Label}
+use Rattle.machine_data.specs.declared.scenario.Version.TheVariants as version
 use Rattle.machine_data.specs.declared.scenario.ScenarioDef.{ScenarioDef}
 use Rattle.machine_data.specs.declared.label.CallLabel.TheVariants as call_label
 use Rattle.machine_data.specs.declared.op.CallOp.TheVariants as call_op
@@ -32,6 +33,7 @@ use Rattle.machine_data.specs.declared.component.HostDef.TheVariants as host_def
 -- a: f, k; b: g
 abbrev pub cancelled_delivery_hands_its_wake_to_the_next_waiter : ScenarioDef
 cancelled_delivery_hands_its_wake_to_the_next_waiter = record {
+  version = version.One;
   handles = 100000;
   table = 1000000;
   idle = idle_line.Trap;
@@ -97,6 +99,7 @@ cancelled_delivery_hands_its_wake_to_the_next_waiter_run =
 -- a: f, h; b: g
 abbrev pub held_yield_stays_held_under_a_cancel : ScenarioDef
 held_yield_stays_held_under_a_cancel = record {
+  version = version.One;
   handles = 100000;
   table = 1000000;
   idle = idle_line.Trap;
@@ -148,6 +151,7 @@ held_yield_stays_held_under_a_cancel_run = (held_yield_stays_held_under_a_cancel
 -- a: f; b: g
 abbrev pub cancel_leaves_a_stackful_wait_waiting : ScenarioDef
 cancel_leaves_a_stackful_wait_waiting = record {
+  version = version.One;
   handles = 100000;
   table = 1000000;
   idle = idle_line.Trap;
@@ -197,6 +201,7 @@ cancel_leaves_a_stackful_wait_waiting_run = (cancel_leaves_a_stackful_wait_waiti
 -- a: g
 abbrev pub least_waiter_is_woken : ScenarioDef
 least_waiter_is_woken = record {
+  version = version.One;
   handles = 100000;
   table = 1000000;
   idle = idle_line.Trap;
@@ -240,6 +245,7 @@ least_waiter_is_woken_run = (least_waiter_is_woken, least_waiter_is_woken_labels
 -- a: g
 abbrev pub woken_thread_takes_its_event_and_the_other_waits_on : ScenarioDef
 woken_thread_takes_its_event_and_the_other_waits_on = record {
+  version = version.One;
   handles = 100000;
   table = 1000000;
   idle = idle_line.Trap;
@@ -284,6 +290,7 @@ woken_thread_takes_its_event_and_the_other_waits_on_run =
 -- a: f, g
 abbrev pub woken_callback_whose_event_was_taken_waits_again : ScenarioDef
 woken_callback_whose_event_was_taken_waits_again = record {
+  version = version.One;
   handles = 9;
   table = 90;
   idle = idle_line.Trap;
@@ -340,6 +347,7 @@ woken_callback_whose_event_was_taken_waits_again_run =
 -- a: f
 abbrev pub task_event_taken_by_a_woken_thread_hands_the_wake_on : ScenarioDef
 task_event_taken_by_a_woken_thread_hands_the_wake_on = record {
+  version = version.One;
   handles = 9;
   table = 90;
   idle = idle_line.Trap;

@@ -1,6 +1,7 @@
 -- Histories of two wrong machines: the steps of the right one, and a last one that it would not make.
 use Rattle.std.specs.Prelude.{List, None, Some, [], replicate, ◌++◌, ◌∷◌}
 use Rattle.machine_data.specs.declared.label.Label.{Label}
+use Rattle.machine_data.specs.declared.scenario.Version.TheVariants as version
 use Rattle.machine_data.specs.declared.scenario.ScenarioDef.{ScenarioDef}
 use Rattle.machine_data.specs.declared.label.CallLabel.TheVariants as call_label
 use Rattle.machine_data.specs.declared.op.CallOp.TheVariants as call_op
@@ -51,6 +52,7 @@ state_after x ls = (play (setting_of x) [] 0 ls (opens x)).last
 -- a call whose callee returns 1 and then 2
 abbrev pub returning_twice : ScenarioDef
 returning_twice = record {
+  version = version.One;
   handles = 10;
   table = 10;
   idle = idle_line.Trap;
@@ -83,6 +85,7 @@ returned_twice = steps_of (setting_of returning_twice) returned_labels (opens re
 -- a call whose callee yields and returns 5; the caller yields, and then cancels it
 abbrev pub cancelling_late : ScenarioDef
 cancelling_late = record {
+  version = version.One;
   handles = 10;
   table = 10;
   idle = idle_line.Trap;

@@ -5,7 +5,7 @@ use Rattle.std.proofs.Common.{refl, suc, zero}
 use Rattle.std.specs.Prelude.{Bool, List, None, Option, Some, false, is_some, nat_le, nat_lt, not, true, ℕ, ◌%◌, ◌*◌, ◌+◌, ◌/◌, ◌==◌, ◌≡◌}
 use Rattle.machine_data.specs.Core.{Core}
 use Rattle.machine_data.specs.Labels.{Choice, exit_label, join_label, ret_label, task_cancel_label, wait_label}
-use Rattle.machine_data.specs.Moves.{PickedEvent, PickedMember, NothingPicked, PickedTaskEvent, picked_event, may_hand_on, passes_check}
+use Rattle.machine_data.specs.Moves.{PickedEvent, PickedMember, NothingPicked, PickedTaskEvent, picked_event, may_hand_on, passes_check, waits_cancellable}
 use Rattle.machine_data.specs.Read.{at_handle_limit, backpressure_of, cancel_was_delivered, event_of, fits, foot_of, goal_of, has_ended, has_member, has_waiters, op_progress_of, instance_of, is_async_lifted, is_direct, is_explicit, is_joined, is_watched, join_of, kind_of, registers_of, set_at, subtask_at, subtask_ended, task_of, thread_at, undelivered_end, under_of, was_cancelled}
 use Rattle.machine_data.specs.Statuses.{status_code}
 use Rattle.machine_data.specs.Write.{set_join}
@@ -46,7 +46,7 @@ use Rattle.machine_data.specs.declared.statuses.Status.{Status}
 use Rattle.machine_data.specs.declared.component.HostDef.{HostDef}
 use Rattle.machine_data.specs.declared.component.HostDef.TheVariants as host_def
 use Rattle.machine_rules.specs.Calls.{AtOnce, Failing, FirstPoll, Later, call_begins, call_host_by, call_resumes, call_rule, call_status_by, call_sync_begins, call_sync_host_by, call_sync_host_rule, call_sync_rule, call_sync_status_by, enter_rule, first_polled, heard_first, polled_first, status_found}
-use Rattle.machine_rules.specs.Cancels.{AlreadyEnded, Async, CallbackWaits, CallbackYields, CancelCase, Mode, OtherwiseRuns, StartNotRun, Sync, after_cancel_by, cancel_aborts_host, cancel_asks, cancel_by, cancel_case, cancel_ended_by, cancel_found_by, cancel_guest_by, cancel_label, cancel_resumed, cancel_rule, cancel_subtask_by, cancel_unended_by, drop_by, subtask_rule}
+use Rattle.machine_rules.specs.Cancels.{AlreadyEnded, Async, AskedBefore, ThreadWaits, CallbackYields, CancelCase, Mode, OtherwiseRuns, StartNotRun, Sync, after_cancel_by, cancel_aborts_host, cancel_asks, cancel_by, cancel_case, cancel_ended_by, cancel_found_by, cancel_guest_by, cancel_label, cancel_resumed, cancel_rule, cancel_subtask_by, cancel_unended_by, drop_by, subtask_rule}
 use Rattle.machine_rules.specs.Data.{data_rule, skip_rule}
 use Rattle.machine_rules.specs.Ends.{blocking_exit_rule, code_kind_rule, code_rule, code_wait_rule, direct_exit_to, exit_rule_for, has_event_for, held_by_flag, implicit_exit_rule, kind_exit_rule, leaves_no_result, may_tell, passes_after_return, passes_after_stop, sync_exit_rule, thread_exit_rule}
 use Rattle.machine_rules.specs.Finish.{Doer}
@@ -209,7 +209,10 @@ module _ (d : Doer) (n : ℕ) (s : Core) where
       may_shows IsDone (may_hand_on x (PickedMember sub) ch.woken s) _ (own_wait n (handed_out ch s (PickedMember sub)) ch.woken)
 
   abbrev picked_event_here : Choice → ℕ → Option PickedEvent
-  picked_event_here ch x = picked_event false (task_of n s) x (chosen n ch s) s
+  picked_event_here ch x = picked_event (waits_cancellable (task_of n s) s) (task_of n s) x (chosen n ch s) s
+
+  abbrev polled_event : Choice → ℕ → Option PickedEvent
+  polled_event ch x = picked_event false (task_of n s) x (chosen n ch s) s
 
   wait_begins_own : (ch : Choice) (x : ℕ) (b : Bool) → Own (wait_begins_by d n ch s x b)
   wait_begins_own ch x true = trap_if_shows IsDone fails_check _ _ refl refl
@@ -242,7 +245,7 @@ module _ (d : Doer) (n : ℕ) (s : Core) where
   set_own ch (set_op.Drop x) = or_trap_shows IsDone (set_at (instance_of n s) (value_of n s x) s) _ _ refl (λ y. set_drop_own (value_of n s x) y)
   set_own ch (set_op.Wait r x) = wait_own (value_of n s x) ch (op_progress_of n s)
   set_own ch (set_op.Poll r x) =
-      or_trap_shows IsDone (set_at (instance_of n s) (value_of n s x) s) _ _ refl (λ y. or_never_shows IsDone (picked_event_here ch y) _ (λ g. refl))
+      or_trap_shows IsDone (set_at (instance_of n s) (value_of n s x) s) _ _ refl (λ y. or_never_shows IsDone (polled_event ch y) _ (λ g. refl))
   set_own ch (set_op.Join x y) =
       or_trap_shows IsDone (subtask_at (instance_of n s) (value_of n s x) s) _ _ refl (λ sub. join_to_own (value_of n s y) ch.woken sub)
 
@@ -320,7 +323,8 @@ module _ (d : Doer) (mode : Mode) (n : ℕ) where
   guest_own : (k : ℕ) (s : Core) (x : CancelCase) → Own (cancel_guest_by d mode n k s x)
   guest_own k s AlreadyEnded = ended_own (subtask.Guest k) s (undelivered_end (event_of (subtask.Guest k) s))
   guest_own k s StartNotRun = own_subtask_cancel mode n 3
-  guest_own k s CallbackWaits = refl
+  guest_own k s AskedBefore = refl
+  guest_own k s ThreadWaits = λ m. refl
   guest_own k s CallbackYields = refl
   guest_own k s OtherwiseRuns = after_own (subtask.Guest k) (cancel_asks k s)
 

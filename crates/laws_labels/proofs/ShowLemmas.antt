@@ -3,7 +3,7 @@ use Rattle.laws_labels.specs.Own.{Shows, is_rule_trap}
 use Rattle.std.specs.Prelude.{Bool, None, Option, Some, false, true, ◌≡◌}
 use Rattle.machine_data.specs.declared.label.Label.{Label}
 use Rattle.machine_data.specs.declared.trap.Trap.{Trap}
-use Rattle.machine_rules.specs.Progress.{Asks, Fails, Continues, Never, Ordered, Progress, Stops, Traps, may, or_never, or_trap, trap_if}
+use Rattle.machine_rules.specs.Progress.{Asks, Fails, Continues, Never, OneOf, Ordered, Progress, Stops, Traps, may, or_never, or_trap, trap_if}
 
 module _ (P : Label → Type 0) where
   pub trap_if_shows : (b : Bool) (t : Trap) (p : Progress) → is_rule_trap t ≡ true → Shows P p → Shows P (trap_if b t p)
@@ -27,6 +27,7 @@ pub wider : (P Q : Label → Type 0) → ((l : Label) → P l → Q l) → (p : 
 wider P Q leads (Continues l new m) h = leads l h
 wider P Q leads (Stops l new) h = leads l h
 wider P Q leads (Ordered held next) h = λ order. wider P Q leads (next order) (h order)
+wider P Q leads (OneOf held next) h = λ m. wider P Q leads (next m) (h m)
 wider P Q leads (Asks next) h = λ answer. wider P Q leads (next answer) (h answer)
 wider P Q leads (Traps t) h = h
 wider P Q leads (Fails i) h = tt

@@ -9,6 +9,7 @@ use Rattle.laws_labels.specs.Own.{is_data, is_main_turn, is_rule_trap, taking_sh
 use Rattle.machine_data.specs.declared.label.TakeLabel.{TakeLabel}
 use Rattle.machine_data.specs.declared.records.Notice.{Notice}
 use Rattle.machine_rules.proofs.Machine.{Asked, Asks, Bool, CallLabel, Core, DeadlockStep, EmptyFor, Ends, Entry, Fails, FailsNow, FuturesStep, Continues, Label, List, Mark, Never, None, Option, Ordered, Poll, Polled, Progress, Progresses, RestStep, Setting, Some, State, Step, StillPends, Stops, Subtask, TakeStep, Trap, Traps, Turn, TurnStep, [], ap, ap₂, at_turn, choice_of, did, entry_number, false, goes_to, has_moving_work, host_done, host_label, is_unended_take, may, may_deadlock, may_publish, next_entry, next_polled, option_and_then, place_of, poll_of, popped, refl, subst, sym, take_rule, thread_taken, trap_label, true, woken, work_group, ℕ, ◌++◌, ◌∙◌, ◌≡◌}
+use Rattle.machine_rules.specs.Progress.{OneOf}
 use Rattle.machine_rules.specs.Notices.{around, finish_notices, of_live, running_group, start_notices, switch_notices, work_notices}
 use Rattle.machine_rules.specs.Step.{RunStep}
 
@@ -80,6 +81,7 @@ plain_runs_on s n (Traps why) l t q h = absurd q
 plain_runs_on s n (Fails i) l t q h = absurd q
 plain_runs_on s n Never l t q h = absurd q
 plain_runs_on s n (Ordered held next) l t q h = absurd q
+plain_runs_on s n (OneOf held next) l t q h = absurd q
 plain_runs_on s n (Asks next) l t q h = absurd q
 
 -- ---- The turns

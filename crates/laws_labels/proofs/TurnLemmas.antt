@@ -19,7 +19,7 @@ use Rattle.machine_data.specs.declared.scenario.MainOpDef.{MainOpDef}
 use Rattle.machine_data.specs.declared.trap.Trap.{Trap}
 use Rattle.machine_data.specs.declared.statuses.Mark.{Mark}
 use Rattle.machine_rules.specs.MainOps.{Answers, Does, MainProgress, Pends, act_of, line_of, main_rule, op_at}
-use Rattle.machine_rules.specs.Progress.{Asks, Fails, Continues, Never, Ordered, Progress, Stops, Traps}
+use Rattle.machine_rules.specs.Progress.{Asks, Fails, Continues, Never, OneOf, Ordered, Progress, Stops, Traps}
 use Rattle.machine_rules.specs.Stalled.{Setting, is_unended_take, may_deadlock}
 use Rattle.machine_rules.specs.Step.{DeadlockStep, EmptyFor, FuturesStep, MainProgresses, MainStep, OpenProgresses, Polled, Progresses, RestStep, ScriptStep, Step, TakeStep, TurnStep, did, entry_number, trap_label}
 use Rattle.machine_rules.specs.Takes.{popped, take_rule}
@@ -56,6 +56,7 @@ module _ (P : Label → Type 0) (s : State) (base : Core) (n : ℕ) (traps : (t 
   shown (Continues k new m) h l t is = subst P (sym is.0) h
   shown (Stops k new) h l t is = subst P (sym is.0) h
   shown (Ordered held next) h l t is = shown (next is.0) (h is.0) l t is.1.1
+  shown (OneOf held next) h l t is = shown (next is.0) (h is.0) l t is.1.1
   shown (Asks next) h l t is = shown (next is.0) (h is.0) l t is.1
   shown (Traps x) h l t is = subst P (sym is.0) (traps x h)
   shown (Fails i) h l t is = subst P (sym is.0) (fails i)

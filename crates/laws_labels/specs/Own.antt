@@ -17,7 +17,7 @@ use Rattle.machine_data.specs.declared.trap.Trap.TheVariants as trap
 use Rattle.machine_data.specs.declared.statuses.Mark.{Mark}
 use Rattle.machine_rules.specs.Outcome.{outcome_of_label}
 use Rattle.machine_data.specs.declared.statuses.HostPoll.{HostPoll}
-use Rattle.machine_rules.specs.Progress.{Asks, Fails, Continues, Never, Ordered, Progress, Stops, Traps}
+use Rattle.machine_rules.specs.Progress.{Asks, Fails, Continues, Never, Ordered, Progress, Stops, Traps, OneOf}
 use Rattle.machine_rules.specs.Stalled.{Setting}
 use Rattle.machine_rules.specs.Step.{Step}
 
@@ -88,6 +88,7 @@ is_rule_trap _ = true
 abbrev pub Shows : (Label → Type 0) → Progress → Type 0
 Shows P (Continues l new m) = P l
 Shows P (Stops l new) = P l
+Shows P (OneOf ns next) = (m : ℕ) → Shows P (next m)
 Shows P (Ordered held next) = (order : List ℕ) → Shows P (next order)
 Shows P (Asks next) = (answer : HostPoll) → Shows P (next answer)
 Shows P (Traps t) = is_rule_trap t ≡ true

@@ -19,7 +19,7 @@ use Rattle.machine_data.specs.Read.{next_entry}
 use Rattle.machine_data.specs.declared.op.Op.{Op}
 use Rattle.machine_data.specs.declared.records.Entry.{Entry}
 use Rattle.machine_data.specs.declared.statuses.Mark.{Mark}
-use Rattle.machine_rules.specs.Progress.{Asks, Fails, Continues, Never, Ordered, Progress, Stops, Traps}
+use Rattle.machine_rules.specs.Progress.{Asks, Fails, Continues, Never, OneOf, Ordered, Progress, Stops, Traps}
 use Rattle.machine_rules.specs.Stalled.{is_unended_take, may_deadlock}
 use Rattle.machine_rules.specs.Step.{DeadlockStep, EmptyFor, Progresses, RestStep, Step, TakeStep, TurnStep, did, entry_number}
 use Rattle.machine_rules.specs.Scripts.{ops_of}
@@ -28,6 +28,7 @@ use Rattle.machine_rules.specs.Turns.{at_turn}
 use Rattle.machine_rules.specs.Works.{has_moving_work}
 use Rattle.std.specs.Prelude.{[], true}
 use Rattle.laws_states.proofs.Primitives.{Records}
+unfoldable use Rattle.machine_data.specs.Write.{arrive, set_cancel_asked}
 
 -- a call's cell is running, whatever its phase
 told_async : (f : WorkCaller) (p : Phase) → is_async_work f ≡ true → phase_told f p ≡ phases.Running
@@ -94,7 +95,7 @@ module _ (a : Scene) (quiet : (n : ℕ) → a.turn ≡ Turn.Futures n → ⊥) (
 
   cell_primitive : (w : Primitive) (s : Core) → Allowed a w s → (i : ℕ) → i ≤ s.made.works → LaterBy SameCell (get b.works i) (get s.works i) →
       LaterBy SameCell (get b.works i) (get (after_primitive w s).works i)
-  unfolding add_call add_group add_set add_thread add_work call_made count_work free_handle free_thread_handle give_handle give_result give_thread_handle on_call on_instance on_thread on_work poll_pends push_high remove_call remove_group remove_set remove_thread remove_work set_backpressure set_cancel_delivered set_cancelled set_course set_do_not_enter set_do_not_suspend set_end set_event set_exited set_op_progress set_join set_task_event set_phase set_position set_register set_result set_saved_callee set_saved_own set_script set_stage set_started set_starting_published set_subtask_handle set_thread_handle set_trapped set_uninteresting set_memory_cell take_result with_handle with_thread_handle work_queued
+  unfolding arrive set_cancel_asked add_call add_group add_set add_thread add_work call_made count_work free_handle free_thread_handle give_handle give_result give_thread_handle on_call on_instance on_thread on_work poll_pends push_high remove_call remove_group remove_set remove_thread remove_work set_backpressure set_cancel_delivered set_cancelled set_course set_do_not_enter set_do_not_suspend set_end set_event set_exited set_op_progress set_join set_task_event set_phase set_position set_register set_result set_saved_callee set_saved_own set_script set_stage set_started set_starting_published set_subtask_handle set_thread_handle set_trapped set_uninteresting set_memory_cell take_result with_handle with_thread_handle work_queued
   cell_primitive AddGroup s ok i below q = q
   cell_primitive (Pend j host) s ok i below q = absurd (quiet ok.0.0 ok.0.1.0)
   cell_primitive (EndWork j c) s ok i below q = absurd (quiet ok.0.0.0 ok.0.0.1.0)
@@ -147,6 +148,7 @@ module _ (m : Main) where
   progress_free s base n (Fails i) l t h = (h.0, ap (λ (u : State). record u { main = m }) h.1)
   progress_free s base n Never l t h = absurd h
   progress_free s base n (Ordered ns next) l t h = (h.0, (h.1.0, progress_free s base n (next h.0) l t h.1.1))
+  progress_free s base n (OneOf ns next) l t h = (h.0, (h.1.0, progress_free s base n (next h.0) l t h.1.1))
   progress_free s base n (Asks next) l t h = (h.0, progress_free s base n (next h.0) l t h.1)
 
 -- a main that has spawned nothing

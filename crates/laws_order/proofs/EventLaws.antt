@@ -1,4 +1,5 @@
 -- What calls tell, along the primitives of a step.
+use Rattle.machine_data.specs.declared.scenario.Version.{Version}
 use Rattle.laws_states.proofs.Primitives.{add_call, add_group, add_set, add_thread, add_work, count_work, free_handle, free_thread_handle, give_handle, give_result, give_thread_handle, on_call, on_instance, on_thread, on_work, push_high, remove_call, remove_group, remove_set, remove_thread, remove_work, set_backpressure, set_cancel_delivered, set_cancelled, set_course, set_do_not_enter, set_do_not_suspend, set_end, set_event, set_exited, set_op_progress, set_join, set_task_event, set_phase, set_position, set_register, set_result, set_saved_callee, set_saved_own, set_script, set_stage, set_started, set_starting_published, set_subtask_handle, set_thread_handle, set_trapped, set_uninteresting, set_memory_cell, take_result, call_made, with_handle, with_thread_handle, work_queued, poll_pends, after_primitive, Allowed, along, ap, arith, Core, get, get-change, get-empty, get-insert, get-remove, nat_tests, Scene, Setting, State, Label, Some, None, Option, Status, Step, step_walks, Subtask, Thread, true, false, Walk, Primitive, ℕ, ◌≡◌, ◌⊎◌, ◌∙◌, is_explicit, place_of, task_of, is_some, by_number, ⊎_elim, fresh, Reached}
 use Rattle.laws_order.specs.Events.{EventsReached, level, level_of, RunsTellHigher, StepsTellHigher, TellsHigher}
 use Rattle.laws_order.proofs.WaitLemmasBetween.{unstarted}
@@ -26,6 +27,7 @@ use Rattle.machine_rules.specs.Laws.{LaterBy, LaterCall}
 use Rattle.machine_rules.specs.Takes.{starting_is_published}
 use Rattle.machine_rules.specs.Primitives.{SetCallEvent}
 use Rattle.machine_rules.specs.Scripts.{ops_of}
+unfoldable use Rattle.machine_data.specs.Write.{arrive, set_cancel_asked}
 
 -- ---- What a call has to hand out it has resulted in
 
@@ -36,7 +38,7 @@ abbrev Started : Core → Type 0
 Started s = (k : ℕ) → event_of (Subtask.Guest k) s ≡ Some Status.Started → was_started k s ≡ true
 
 published_primitive : (a : Scene) (w : Primitive) (s : Core) → Allowed a w s → Published s → Published (after_primitive w s)
-unfolding add_call add_group add_set add_thread add_work count_work free_handle free_thread_handle give_handle give_result give_thread_handle on_call on_instance on_thread on_work push_high remove_call remove_group remove_set remove_thread remove_work set_backpressure set_cancel_delivered set_cancelled set_course set_do_not_enter set_do_not_suspend set_end set_event set_exited set_op_progress set_join set_task_event set_phase set_position set_register set_result set_saved_callee set_saved_own set_script set_stage set_started set_starting_published set_subtask_handle set_thread_handle set_trapped set_uninteresting set_memory_cell take_result call_made with_handle with_thread_handle work_queued poll_pends
+unfolding arrive set_cancel_asked add_call add_group add_set add_thread add_work count_work free_handle free_thread_handle give_handle give_result give_thread_handle on_call on_instance on_thread on_work push_high remove_call remove_group remove_set remove_thread remove_work set_backpressure set_cancel_delivered set_cancelled set_course set_do_not_enter set_do_not_suspend set_end set_event set_exited set_op_progress set_join set_task_event set_phase set_position set_register set_result set_saved_callee set_saved_own set_script set_stage set_started set_starting_published set_subtask_handle set_thread_handle set_trapped set_uninteresting set_memory_cell take_result call_made with_handle with_thread_handle work_queued poll_pends
 published_primitive a (SetCallEvent j None) s ok q k h = grind (arith, nat_tests, get-change, q k)
 published_primitive a (SetCallEvent j (Some Status.Starting)) s ok q k h = let now = ok.1.0.1 in grind (arith, nat_tests, get-change, q k)
 published_primitive a (SetCallEvent j (Some Status.Started)) s ok q k h = grind (arith, nat_tests, get-change, q k)
@@ -44,27 +46,27 @@ published_primitive a (SetCallEvent j (Some _)) s ok q k h = absurd ok.1.0
 published_primitive a w s ok q k h = grind (arith, nat_tests, get-change, get-insert, get-remove, q k)
 
 started_primitive : (a : Scene) (w : Primitive) (s : Core) → Allowed a w s → Started s → Started (after_primitive w s)
-unfolding add_call add_group add_set add_thread add_work count_work free_handle free_thread_handle give_handle give_result give_thread_handle on_call on_instance on_thread on_work push_high remove_call remove_group remove_set remove_thread remove_work set_backpressure set_cancel_delivered set_cancelled set_course set_do_not_enter set_do_not_suspend set_end set_event set_exited set_op_progress set_join set_task_event set_phase set_position set_register set_result set_saved_callee set_saved_own set_script set_stage set_started set_starting_published set_subtask_handle set_thread_handle set_trapped set_uninteresting set_memory_cell take_result call_made with_handle with_thread_handle work_queued poll_pends
+unfolding arrive set_cancel_asked add_call add_group add_set add_thread add_work count_work free_handle free_thread_handle give_handle give_result give_thread_handle on_call on_instance on_thread on_work push_high remove_call remove_group remove_set remove_thread remove_work set_backpressure set_cancel_delivered set_cancelled set_course set_do_not_enter set_do_not_suspend set_end set_event set_exited set_op_progress set_join set_task_event set_phase set_position set_register set_result set_saved_callee set_saved_own set_script set_stage set_started set_starting_published set_subtask_handle set_thread_handle set_trapped set_uninteresting set_memory_cell take_result call_made with_handle with_thread_handle work_queued poll_pends
 started_primitive a (SetCallEvent j None) s ok q k h = grind (arith, nat_tests, get-change, q k)
 started_primitive a (SetCallEvent j (Some Status.Starting)) s ok q k h = grind (arith, nat_tests, get-change, q k)
 started_primitive a (SetCallEvent j (Some Status.Started)) s ok q k h = let now = ok.1.0 in grind (arith, nat_tests, get-change, q k)
 started_primitive a (SetCallEvent j (Some _)) s ok q k h = absurd ok.1.0
 started_primitive a w s ok q k h = grind (arith, nat_tests, get-change, get-insert, get-remove, q k)
 
-none_tells : (instances handle_limit capacity k : ℕ) (e : Status) →
-    event_of (Subtask.Guest k) (fresh instances handle_limit capacity) ≡ Some e → {A : Type 0} → A
+none_tells : (rules : Version) (instances handle_limit capacity k : ℕ) (e : Status) →
+    event_of (Subtask.Guest k) (fresh rules instances handle_limit capacity) ≡ Some e → {A : Type 0} → A
 unfolding fresh
-none_tells instances handle_limit capacity k e is = let none = get-empty {X = Call} k in absurd (cc)
+none_tells rules instances handle_limit capacity k e is = let none = get-empty {X = Call} k in absurd (cc)
 
 pub events_reached : EventsReached
 unfolding EventsReached EndsToldAsRecorded
 events_reached x s r k c at e is = by e is
   where
     published : Published s.core
-    published = reached_kept Published (λ i h t k is. none_tells i h t k Status.Starting is) published_primitive r
+    published = reached_kept Published (λ v i h t k is. none_tells v i h t k Status.Starting is) published_primitive r
 
     started : Started s.core
-    started = reached_kept Started (λ i h t k is. none_tells i h t k Status.Started is) started_primitive r
+    started = reached_kept Started (λ v i h t k is. none_tells v i h t k Status.Started is) started_primitive r
 
     by : (e : Status) → c.event ≡ Some e → level_of e ≤ level c
     by Status.Starting is = let p = published k in grind arith
@@ -90,7 +92,7 @@ waits_here : (a : Scene) → Numbered a.base → (n k : ℕ) (m : Mark) → plac
 waits_here a numbered n k m at implicit same = let own = numbered.threads n in grind (arith, own)
 
 starting_new : (a : Scene) → Numbered a.base → (w : Primitive) (s : Core) → Allowed a w s → NewStarting a s → NewStarting a (after_primitive w s)
-unfolding add_call add_group add_set add_thread add_work count_work free_handle free_thread_handle give_handle give_result give_thread_handle on_call on_instance on_thread on_work push_high remove_call remove_group remove_set remove_thread remove_work set_backpressure set_cancel_delivered set_cancelled set_course set_do_not_enter set_do_not_suspend set_end set_event set_exited set_op_progress set_join set_task_event set_phase set_position set_register set_result set_saved_callee set_saved_own set_script set_stage set_started set_starting_published set_subtask_handle set_thread_handle set_trapped set_uninteresting set_memory_cell take_result call_made with_handle with_thread_handle work_queued poll_pends
+unfolding arrive set_cancel_asked add_call add_group add_set add_thread add_work count_work free_handle free_thread_handle give_handle give_result give_thread_handle on_call on_instance on_thread on_work push_high remove_call remove_group remove_set remove_thread remove_work set_backpressure set_cancel_delivered set_cancelled set_course set_do_not_enter set_do_not_suspend set_end set_event set_exited set_op_progress set_join set_task_event set_phase set_position set_register set_result set_saved_callee set_saved_own set_script set_stage set_started set_starting_published set_subtask_handle set_thread_handle set_trapped set_uninteresting set_memory_cell take_result call_made with_handle with_thread_handle work_queued poll_pends
 starting_new a numbered (SetCallEvent j None) s ok q k h = q k (grind (arith, nat_tests, get-change))
 starting_new a numbered (SetCallEvent j (Some Status.Starting)) s ok q k h = by_number k j _
     (λ is. let r = ok.1.1 in inr (waits_here a numbered r.0 k r.1.1.0.0 r.1.1.0.1 r.1.1.1.0 (is ∙ r.1.1.1.1.0), ap (λ (n : ℕ). starting_is_published n a.base) is ∙ ok.1.0.0))
@@ -100,7 +102,7 @@ starting_new a numbered (SetCallEvent j (Some _)) s ok q k h = absurd ok.1.0
 starting_new a numbered w s ok q k h = q k (grind (arith, nat_tests, get-change, get-insert, get-remove))
 
 started_new : (a : Scene) → Numbered a.base → (w : Primitive) (s : Core) → Allowed a w s → NewStarted a s → NewStarted a (after_primitive w s)
-unfolding add_call add_group add_set add_thread add_work count_work free_handle free_thread_handle give_handle give_result give_thread_handle on_call on_instance on_thread on_work push_high remove_call remove_group remove_set remove_thread remove_work set_backpressure set_cancel_delivered set_cancelled set_course set_do_not_enter set_do_not_suspend set_end set_event set_exited set_op_progress set_join set_task_event set_phase set_position set_register set_result set_saved_callee set_saved_own set_script set_stage set_started set_starting_published set_subtask_handle set_thread_handle set_trapped set_uninteresting set_memory_cell take_result call_made with_handle with_thread_handle work_queued poll_pends
+unfolding arrive set_cancel_asked add_call add_group add_set add_thread add_work count_work free_handle free_thread_handle give_handle give_result give_thread_handle on_call on_instance on_thread on_work push_high remove_call remove_group remove_set remove_thread remove_work set_backpressure set_cancel_delivered set_cancelled set_course set_do_not_enter set_do_not_suspend set_end set_event set_exited set_op_progress set_join set_task_event set_phase set_position set_register set_result set_saved_callee set_saved_own set_script set_stage set_started set_starting_published set_subtask_handle set_thread_handle set_trapped set_uninteresting set_memory_cell take_result call_made with_handle with_thread_handle work_queued poll_pends
 started_new a numbered (SetCallEvent j None) s ok q k h = q k (grind (arith, nat_tests, get-change))
 started_new a numbered (SetCallEvent j (Some Status.Starting)) s ok q k h = q k (grind (arith, nat_tests, get-change))
 started_new a numbered (SetCallEvent j (Some Status.Started)) s ok q k h = by_number k j _

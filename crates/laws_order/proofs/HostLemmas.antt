@@ -11,7 +11,7 @@ use Rattle.std.specs.Prelude.{Bool, List, None, Option, Some, false, is_some, na
 use Rattle.machine_data.proofs.CommuteLemmas.{get-change}
 use Rattle.machine_data.specs.Core.{Core, State}
 use Rattle.machine_data.specs.Labels.{Choice, choice_of}
-use Rattle.machine_data.specs.Moves.{PickedEvent, PickedMember, NothingPicked, PickedTaskEvent, picked_event, may_hand_on, passes_check}
+use Rattle.machine_data.specs.Moves.{PickedEvent, PickedMember, NothingPicked, PickedTaskEvent, picked_event, may_hand_on, passes_check, waits_cancellable}
 use Rattle.machine_data.specs.Read.{at_handle_limit, backpressure_of, cancel_was_delivered, event_of, fits, has_ended, has_member, has_waiters, op_progress_of, instance_of, is_async_lifted, is_joined, is_watched, join_of, kind_of, set_at, subtask_at, subtask_ended, task_of, thread_at, undelivered_end, was_cancelled}
 use Rattle.machine_data.specs.Write.{on_thread, set_op_progress, set_join}
 use Rattle.machine_data.specs.declared.component.Component.{Component}
@@ -39,11 +39,11 @@ use Rattle.machine_data.specs.declared.records.Turn.TheVariants as turn
 use Rattle.machine_data.specs.declared.trap.Trap.{Trap}
 use Rattle.machine_data.specs.declared.statuses.HostPoll.{HostPoll}
 use Rattle.machine_data.specs.declared.statuses.Status.{Status}
-use Rattle.machine_rules.specs.Cancels.{AlreadyEnded, Async, CallbackWaits, CallbackYields, CancelCase, Mode, OtherwiseRuns, StartNotRun, Sync, after_cancel_by, cancel_aborts_host, cancel_asks, cancel_by, cancel_case, cancel_ended_by, cancel_found_by, cancel_guest_by, cancel_resumed, cancel_rule, cancel_subtask_by, cancel_unended_by, drop_by}
+use Rattle.machine_rules.specs.Cancels.{AlreadyEnded, Async, AskedBefore, ThreadWaits, CallbackYields, CancelCase, Mode, OtherwiseRuns, StartNotRun, Sync, after_cancel_by, cancel_aborts_host, cancel_asks, cancel_by, cancel_case, cancel_ended_by, cancel_found_by, cancel_guest_by, cancel_resumed, cancel_rule, cancel_subtask_by, cancel_unended_by, drop_by}
 use Rattle.machine_rules.specs.Ends.{may_tell}
 use Rattle.machine_rules.specs.Finish.{SomeHost}
 use Rattle.machine_rules.specs.OpParts.{ends_activation, is_data_op}
-use Rattle.machine_rules.specs.Progress.{Asks, Fails, Continues, Never, Ordered, Progress, Stops, Traps, may, or_never, or_trap, trap_if}
+use Rattle.machine_rules.specs.Progress.{Asks, Fails, Continues, Never, OneOf, Ordered, Progress, Stops, Traps, may, or_never, or_trap, trap_if}
 use Rattle.machine_rules.specs.Scripts.{slot_at, value_of}
 use Rattle.machine_rules.specs.Sets.{chosen, finds_nothing, join_done_by, join_to_by, may_wake_new, poll_takes_by, set_drop_by, set_rule, wait_begins_by, wait_goes_on_by, wait_rule, wait_takes_by}
 use Rattle.machine_rules.specs.Step.{Progresses, op_rule}
@@ -57,6 +57,7 @@ use Rattle.laws_order.specs.WakesKept.{OrderLosesNoWakeAs}
 abbrev DoneFor : ℕ → Progress → Type 0
 DoneFor n (Continues l new m) = (m ≡ n) × (op_progress_of n new ≡ op_progress.Fresh)
 DoneFor n (Ordered ns next) = (order : List ℕ) → DoneFor n (next order)
+DoneFor n (OneOf ns next) = (m : ℕ) → DoneFor n (next m)
 DoneFor n (Asks next) = (answer : HostPoll) → DoneFor n (next answer)
 DoneFor n p = Unit {0}
 
@@ -88,6 +89,7 @@ leads x t n m l (Continues k new j) g h to =
     let one : j ≡ m = cc in
     (sym one ∙ g.0, ap (λ (v : State). op_progress_of n v.core) h.1 ∙ g.1)
 leads x t n m l (Ordered ns next) g h to = leads x t n m l (next h.0) (g h.0) h.1.1 to
+leads x t n m l (OneOf ns next) g h to = leads x t n m l (next h.0) (g h.0) h.1.1 to
 leads x t n m l (Asks next) g h to = leads x t n m l (next h.0) (g h.0) h.1 to
 leads x t n m l (Stops k new) g h to = absurd (let main = ap (λ (v : State). v.turn) h.1 in cc)
 leads x t n m l (Traps w) g h to = absurd (let over = ap (λ (v : State). v.turn) h.1 in cc)
@@ -116,7 +118,7 @@ module _ (n : ℕ) (s : Core) where
 
   begins : (ch : Choice) (x : ℕ) (b : Bool) → DoneFor n (wait_begins_by SomeHost n ch s x b)
   begins ch x true = if_traps n (not (passes_check (instance_of n s) s)) _ _ tt
-  begins ch x false = if_given n (picked_event false (task_of n s) x (chosen n ch s) s) (wait_takes_by SomeHost n ch s) (λ g. (refl, fresh n _))
+  begins ch x false = if_given n (picked_event (waits_cancellable (task_of n s) s) (task_of n s) x (chosen n ch s) s) (wait_takes_by SomeHost n ch s) (λ g. (refl, fresh n _))
 
   goes_on : (ch : Choice) (x : ℕ) (g : PickedEvent) → DoneFor n (wait_goes_on_by SomeHost n x ch s g)
   goes_on ch x NothingPicked = tt
@@ -124,7 +126,7 @@ module _ (n : ℕ) (s : Core) where
   goes_on ch x (PickedMember sub) = if_lawful n (may_hand_on x (PickedMember sub) ch.woken s) _ (refl, fresh n _)
 
   waits : (ch : Choice) (h : ℕ) (f : OpProgress) → DoneFor n (wait_rule SomeHost n h ch s f)
-  waits ch h (op_progress.Waits x) = if_given n (picked_event false (task_of n s) x (chosen n ch s) s) (wait_goes_on_by SomeHost n x ch s) (goes_on ch x)
+  waits ch h (op_progress.Waits x) = if_given n (picked_event (waits_cancellable (task_of n s) s) (task_of n s) x (chosen n ch s) s) (wait_goes_on_by SomeHost n x ch s) (goes_on ch x)
   waits ch h _ = if_found n (set_at (instance_of n s) h s) _ (λ x. wait_begins_by SomeHost n ch s x (finds_nothing n x s)) (λ x. begins ch x (finds_nothing n x s))
 
   joined : (w x : Option ℕ) (sub : Subtask) → DoneFor n (join_done_by SomeHost n sub w s x)
@@ -217,7 +219,8 @@ module _ (mode : Mode) (n : ℕ) where
   guests : (k : ℕ) (s : Core) (x : CancelCase) → DoneFor n (cancel_guest_by SomeHost mode n k s x)
   guests k s AlreadyEnded = ended mode n (subtask.Guest k) s (undelivered_end (event_of (subtask.Guest k) s))
   guests k s StartNotRun = (refl, fresh n _)
-  guests k s CallbackWaits = tt
+  guests k s AskedBefore = tt
+  guests k s ThreadWaits = λ m. tt
   guests k s CallbackYields = tt
   guests k s OtherwiseRuns = after (subtask.Guest k) (cancel_asks k s)
 

@@ -27,7 +27,7 @@ use Rattle.machine_rules.proofs.MuteLemmas.{mute_primitives, none_said}
 use Rattle.machine_rules.proofs.PlacingLemmas.{placed, placing_shifted}
 use Rattle.machine_rules.proofs.StandLemmas.{by_number}
 use Rattle.machine_rules.specs.Allowed.{Cancels, MayPut, Releases, Resumes, Starts, Unblocks, Wakes}
-use Rattle.machine_rules.specs.Cancels.{is_callback_wait}
+use Rattle.machine_rules.specs.Cancels.{is_waiting}
 use Rattle.machine_rules.specs.Chains.{LastPrimitives, NoPrimitive, Remains, Shifts, Stay}
 use Rattle.machine_rules.specs.Scenes.{Scene, scene_of}
 use Rattle.machine_rules.specs.Primitives.{Put, put_at}
@@ -101,7 +101,7 @@ waiter_place : (x : ℕ) (o : Option Place) → option_map_or (is_waiting_on x) 
 waiter_place x (Some (Place.Waiting y b)) on = ((y, b), refl)
 waiter_place x o on = absurd (grind (arith, on))
 
-callback_place : (o : Option Place) → option_map_or is_callback_wait o false ≡ true → (p : Place) × ((o ≡ Some p) × ((y : ℕ) (far : OpProgress) → woken_place y (Some p) far ≡ false))
+callback_place : (o : Option Place) → option_map_or is_waiting o false ≡ true → (p : Place) × ((o ≡ Some p) × ((y : ℕ) (far : OpProgress) → woken_place y (Some p) far ≡ false))
 callback_place (Some (Place.Waiting y b)) on = (Place.Waiting y b, (refl, λ z far. refl))
 callback_place o on = absurd (grind (arith, on))
 

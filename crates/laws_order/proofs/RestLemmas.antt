@@ -32,7 +32,7 @@ use Rattle.machine_data.specs.declared.statuses.Phase.{Phase}
 use Rattle.machine_data.specs.declared.statuses.Phase.TheVariants as phase
 use Rattle.machine_rules.proofs.StandLemmas.{is_eq_of}
 use Rattle.machine_rules.specs.MainOps.{Answers, Does, MainProgress, Pends, act_of, line_of, main_rule, op_at}
-use Rattle.machine_rules.specs.Progress.{Asks, Fails, Continues, Never, Ordered, Progress, Stops, Traps}
+use Rattle.machine_rules.specs.Progress.{Asks, Fails, Continues, Never, OneOf, Ordered, Progress, Stops, Traps}
 use Rattle.machine_rules.specs.Run.{Run}
 use Rattle.machine_rules.specs.Stalled.{Setting, is_unended_take, may_deadlock}
 use Rattle.machine_rules.specs.Step.{DeadlockStep, EmptyFor, FuturesStep, MainProgresses, MainStep, Polled, Progresses, RestStep, ScriptStep, Step, TakeStep, TurnStep, entry_number}
@@ -67,6 +67,7 @@ loud : (m : Mark) (s : State) (base : Core) (n : ℕ) (p : Progress) → Shows (
 loud m s base n (Continues k new j) h l t is = ap is_quiet is.0 ∙ taken_loud m k h
 loud m s base n (Stops k new) h l t is = ap is_quiet is.0 ∙ taken_loud m k h
 loud m s base n (Ordered held next) h l t is = loud m s base n (next is.0) (h is.0) l t is.1.1
+loud m s base n (OneOf held next) h l t is = loud m s base n (next is.0) (h is.0) l t is.1.1
 loud m s base n (Asks next) h l t is = loud m s base n (next is.0) (h is.0) l t is.1
 loud m s base n (Traps x) h l t is = ap is_quiet is.0
 loud m s base n (Fails i) h l t is = ap is_quiet is.0

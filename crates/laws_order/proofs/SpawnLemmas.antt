@@ -9,6 +9,7 @@ use Rattle.std.specs.Prelude.{None, Option, Some, [], false, is_some, true, ℕ,
 use Rattle.machine_data.specs.Core.{State}
 use Rattle.laws_places.proofs.OrderLemmas.{step_in_order}
 use Rattle.machine_rules.specs.MainOps.{is_spawn, is_spawn_caller}
+unfoldable use Rattle.machine_data.specs.Write.{arrive, set_cancel_asked}
 
 module _ (a : Scene) (base : WorksKnown a.base) (i : ℕ) where
   -- no primitive of the step removes it
@@ -24,7 +25,7 @@ module _ (a : Scene) (base : WorksKnown a.base) (i : ℕ) where
 
   there_primitive : (w : Primitive) (s : Core) → Allowed a w s → (MayRemoveWork a i s → ⊥) → i ≤ s.made.works →
       is_some (get s.works i) ≡ true → is_some (get (after_primitive w s).works i) ≡ true
-  unfolding add_call add_group add_set add_thread add_work call_made count_work free_handle free_thread_handle give_handle give_result give_thread_handle on_call on_instance on_thread on_work poll_pends push_high remove_call remove_group remove_set remove_thread remove_work set_backpressure set_cancel_delivered set_cancelled set_course set_do_not_enter set_do_not_suspend set_end set_event set_exited set_op_progress set_join set_task_event set_phase set_position set_register set_result set_saved_callee set_saved_own set_script set_stage set_started set_starting_published set_subtask_handle set_thread_handle set_trapped set_uninteresting set_memory_cell take_result with_handle with_thread_handle work_queued
+  unfolding arrive set_cancel_asked add_call add_group add_set add_thread add_work call_made count_work free_handle free_thread_handle give_handle give_result give_thread_handle on_call on_instance on_thread on_work poll_pends push_high remove_call remove_group remove_set remove_thread remove_work set_backpressure set_cancel_delivered set_cancelled set_course set_do_not_enter set_do_not_suspend set_end set_event set_exited set_op_progress set_join set_task_event set_phase set_position set_register set_result set_saved_callee set_saved_own set_script set_stage set_started set_starting_published set_subtask_handle set_thread_handle set_trapped set_uninteresting set_memory_cell take_result with_handle with_thread_handle work_queued
   there_primitive (RemoveWork j) s ok stays below there = by_number j i _ (λ e. absurd (stays (rw e at ok))) (λ e. grind (arith, nat_tests, get-remove, e, there))
   there_primitive w s ok stays below there = grind (arith, nat_tests, get-change, get-insert, there)
 

@@ -17,6 +17,7 @@ use Rattle.machine_data.specs.declared.records.Place.{Place}
 use Rattle.laws_places.proofs.OrderLemmas.{asked}
 use Rattle.machine_rules.specs.Allowed.{IsRunner}
 use Rattle.machine_rules.specs.Scenes.{base_at, runner_at}
+unfoldable use Rattle.machine_data.specs.Write.{arrive, set_cancel_asked}
 
 -- ---- A work that is gone had ended
 
@@ -30,7 +31,7 @@ removed_ended a finds i s (n, (is, (same, inr ended))) = ended.0
 
 gone_primitive : (a : Scene) → Finds a → (i : ℕ) (w : Primitive) (s : Core) → Allowed a w s → get (after_primitive w s).works i ≡ None →
     (get s.works i ≡ None) ⊎ (is_stage_ended (stage_of i a.base) ≡ true)
-unfolding add_call add_group add_set add_thread add_work count_work free_handle free_thread_handle give_handle give_result give_thread_handle on_call on_instance on_thread on_work push_high remove_call remove_group remove_set remove_thread remove_work set_backpressure set_cancel_delivered set_cancelled set_course set_do_not_enter set_do_not_suspend set_end set_event set_exited set_op_progress set_join set_task_event set_phase set_position set_register set_result set_saved_callee set_saved_own set_script set_stage set_started set_starting_published set_subtask_handle set_thread_handle set_trapped set_uninteresting set_memory_cell take_result call_made with_handle with_thread_handle work_queued poll_pends
+unfolding arrive set_cancel_asked add_call add_group add_set add_thread add_work count_work free_handle free_thread_handle give_handle give_result give_thread_handle on_call on_instance on_thread on_work push_high remove_call remove_group remove_set remove_thread remove_work set_backpressure set_cancel_delivered set_cancelled set_course set_do_not_enter set_do_not_suspend set_end set_event set_exited set_op_progress set_join set_task_event set_phase set_position set_register set_result set_saved_callee set_saved_own set_script set_stage set_started set_starting_published set_subtask_handle set_thread_handle set_trapped set_uninteresting set_memory_cell take_result call_made with_handle with_thread_handle work_queued poll_pends
 gone_primitive a finds i AddGroup s ok none = inl none
 gone_primitive a finds i (RemoveWork j) s ok none = by_number i j _ (λ is. inr (removed_ended a finds i s (rw is ok)))
     (λ other. inl (grind (arith, nat_tests, get-remove, other, none)))
@@ -53,7 +54,7 @@ spawned_at (Some w) = is_spawned w.caller
 
 spawned_primitive : (a : Scene) → (a.turn ≡ Turn.Main → ⊥) → (i : ℕ) (w : Primitive) (s : Core) → Allowed a w s → spawned_at (get s.works i) ≡ false →
     spawned_at (get (after_primitive w s).works i) ≡ false
-unfolding spawned_at add_call add_group add_set add_thread add_work count_work free_handle free_thread_handle give_handle give_result give_thread_handle on_call on_instance on_thread on_work push_high remove_call remove_group remove_set remove_thread remove_work set_backpressure set_cancel_delivered set_cancelled set_course set_do_not_enter set_do_not_suspend set_end set_event set_exited set_op_progress set_join set_task_event set_phase set_position set_register set_result set_saved_callee set_saved_own set_script set_stage set_started set_starting_published set_subtask_handle set_thread_handle set_trapped set_uninteresting set_memory_cell take_result call_made with_handle with_thread_handle work_queued poll_pends
+unfolding arrive set_cancel_asked spawned_at add_call add_group add_set add_thread add_work count_work free_handle free_thread_handle give_handle give_result give_thread_handle on_call on_instance on_thread on_work push_high remove_call remove_group remove_set remove_thread remove_work set_backpressure set_cancel_delivered set_cancelled set_course set_do_not_enter set_do_not_suspend set_end set_event set_exited set_op_progress set_join set_task_event set_phase set_position set_register set_result set_saved_callee set_saved_own set_script set_stage set_started set_starting_published set_subtask_handle set_thread_handle set_trapped set_uninteresting set_memory_cell take_result call_made with_handle with_thread_handle work_queued poll_pends
 spawned_primitive a inside i AddGroup s ok was = was
 spawned_primitive a inside i (QueueWork f host group) s ok was = let call = queued_call a f group inside ok.1.0 in grind (arith, nat_tests, get-insert, call, was)
 spawned_primitive a inside i w s ok was = first_of (assumption, grind (arith, nat_tests, get-change, get-insert, get-remove))

@@ -43,6 +43,7 @@ use Rattle.laws_order.proofs.LineLemmas.{after_more, lawful_more}
 use Rattle.laws_order.specs.Moves.{AllOther, Comes, IsOther, Lawful, May, Move, MovesBy, Promotes, StepsMoveEntries, Takes, Withdraws, after, moved, one_at, taking, taking_by, taking_next, unlined}
 use Rattle.machine_rules.specs.Allowed.{IsUnwind, IsSettling, MayHasten, MayLand, MayShift, Stays, TakesWork}
 use Rattle.machine_rules.specs.Step.{DeadlockStep, EmptyFor, Progresses, RestStep, Step, TakeStep, TurnStep}
+unfoldable use Rattle.machine_data.specs.Write.{arrive, set_cancel_asked}
 
 settling_same : (w : Primitive) (s : Core) → IsSettling w s → (after_primitive w s).queues ≡ s.queues
 unfolding set_uninteresting remove_call remove_group on_call
@@ -205,7 +206,7 @@ module _ (x : Setting) (first : State) (l : Label) (next : Turn) (apart : TakesW
   placing_moves p s ok = none x first l s.queues
 
   primitive_moves : (w : Primitive) (s : Core) → Stays a w s → Moving s.queues (after_primitive w s).queues
-  unfolding add_call add_group add_set add_thread add_work count_work free_handle free_thread_handle give_handle give_result give_thread_handle on_call on_instance on_thread on_work push_high remove_call remove_group remove_set remove_thread remove_work set_backpressure set_cancel_delivered set_cancelled set_course set_do_not_enter set_do_not_suspend set_end set_event set_exited set_op_progress set_join set_task_event set_phase set_position set_register set_result set_saved_callee set_saved_own set_script set_stage set_started set_starting_published set_subtask_handle set_thread_handle set_trapped set_uninteresting set_memory_cell take_result call_made with_handle with_thread_handle work_queued poll_pends set_switch
+  unfolding arrive set_cancel_asked add_call add_group add_set add_thread add_work count_work free_handle free_thread_handle give_handle give_result give_thread_handle on_call on_instance on_thread on_work push_high remove_call remove_group remove_set remove_thread remove_work set_backpressure set_cancel_delivered set_cancelled set_course set_do_not_enter set_do_not_suspend set_end set_event set_exited set_op_progress set_join set_task_event set_phase set_position set_register set_result set_saved_callee set_saved_own set_script set_stage set_started set_starting_published set_subtask_handle set_thread_handle set_trapped set_uninteresting set_memory_cell take_result call_made with_handle with_thread_handle work_queued poll_pends set_switch
   primitive_moves (Places p) s (inl ok) = placing_moves p s (inl ok)
   primitive_moves (Places p) s (inr ok) = placing_moves p s (inr (inl ok))
   primitive_moves (Withdraw k) s ok = once x first l (Withdraws k) (says_there x first l _ ok.1.0) tt (ap (with_switch (less_switch k s.queues.switch)) (unqueued_is x first l k s))

@@ -28,6 +28,7 @@ use Rattle.machine_rules.specs.SubtaskEnds.{end_for, written_as, written_by}
 use Rattle.machine_rules.specs.Primitives.{EndWork, FinishWork}
 use Rattle.machine_rules.specs.Works.{has_end}
 use Rattle.machine_data.specs.declared.label.LoopLabel.{LoopLabel}
+unfoldable use Rattle.machine_data.specs.Write.{arrive, set_cancel_asked}
 
 -- ---- In a state
 
@@ -50,7 +51,7 @@ abbrev EndsNow : Scene → ℕ → Type 0
 EndsNow a i = a.label ≡ Label.Loop (LoopLabel.FutureEnds i)
 
 recorded_primitive : (a : Scene) (w : Primitive) (s : Core) → Allowed a w s → (i : ℕ) → has_recorded i (after_primitive w s) ≡ true → (has_recorded i s ≡ true) ⊎ EndsNow a i
-unfolding add_call add_group add_set add_thread add_work count_work free_handle free_thread_handle give_handle give_result give_thread_handle on_call on_instance on_thread on_work push_high remove_call remove_group remove_set remove_thread remove_work set_backpressure set_cancel_delivered set_cancelled set_course set_do_not_enter set_do_not_suspend set_end set_event set_exited set_op_progress set_join set_task_event set_phase set_position set_register set_result set_saved_callee set_saved_own set_script set_stage set_started set_starting_published set_subtask_handle set_thread_handle set_trapped set_uninteresting set_memory_cell take_result call_made with_handle with_thread_handle work_queued poll_pends
+unfolding arrive set_cancel_asked add_call add_group add_set add_thread add_work count_work free_handle free_thread_handle give_handle give_result give_thread_handle on_call on_instance on_thread on_work push_high remove_call remove_group remove_set remove_thread remove_work set_backpressure set_cancel_delivered set_cancelled set_course set_do_not_enter set_do_not_suspend set_end set_event set_exited set_op_progress set_join set_task_event set_phase set_position set_register set_result set_saved_callee set_saved_own set_script set_stage set_started set_starting_published set_subtask_handle set_thread_handle set_trapped set_uninteresting set_memory_cell take_result call_made with_handle with_thread_handle work_queued poll_pends
 recorded_primitive a AddGroup s ok i h = inl h
 recorded_primitive a (EndWork j c) s ok i h = by_number i j _ (λ is. inr (rw is ok.0.1.0)) (λ other. inl (grind (arith, nat_tests, get-change, other, h)))
 recorded_primitive a (FinishWork j c) s ok i h = by_number i j _ (λ is. inr (rw is ok.0.1.0)) (λ other. inl (grind (arith, nat_tests, get-change, other, h)))

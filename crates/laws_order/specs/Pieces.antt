@@ -2,7 +2,7 @@
 use Rattle.std.specs.Prelude.{is_some, List, Some, false, true, ℕ, ◌≡◌, ◌≤◌}
 use Rattle.laws_states.specs.Order.{InOrder, InOrderAs, is_open}
 use Rattle.laws_states.specs.WakeLaw.{WakesCounted}
-use Rattle.machine_data.specs.Core.{Core, Main, One, State}
+use Rattle.machine_data.specs.Core.{Core, Main, State}
 use Rattle.machine_data.specs.Moves.{promoted_unless, put_switch}
 use Rattle.machine_data.specs.declared.component.Component.{Component}
 use Rattle.machine_data.specs.declared.label.Label.{Label}
@@ -34,7 +34,7 @@ use Rattle.machine_rules.specs.Threads.{has_yielded, resume_why}
 
 -- the state with this core and this part of main, at this turn
 abbrev pub state_in : Main → Turn → Core → State
-state_in m p s = record { version = One; core = s; main = m; turn = p }
+state_in m p s = record { core = s; main = m; turn = p }
 
 -- the core is in order at this turn, whatever main's part is
 abbrev pub InOrderForAnyMain : Component → Turn → Core → Type 0

@@ -4,13 +4,13 @@ use Rattle.laws_choices.proofs.RunLemmas.{is_step}
 use Rattle.laws_choices.proofs.StepLemmas.{made_is_step, stays_scripted, step_determined}
 use Rattle.laws_choices.specs.Lines.{LineTellsChoice}
 use Rattle.laws_choices.specs.Offer.{Chosen, shown}
-use Rattle.laws_choices.specs.Steps.{IsScripted, MadeIsStep, NothingOpen, StepBy, StepDetermined}
+use Rattle.laws_choices.specs.Steps.{IsScripted, MadeIsStep, NothingOpen, StepBy, StepDetermined, hides_in, told}
 use Rattle.laws_picks.specs.Arrival.{AreNarrow, ArrivalIsRun, IsByArrival, LinesTellRun, RunByArrival, held_after}
 use Rattle.laws_places.proofs.OrderLemmas.{step_in_order}
 use Rattle.laws_states.proofs.SettledLemmas.{settled_stays}
 use Rattle.laws_states.specs.Order.{InOrder}
 use Rattle.laws_states.specs.Settled.{IsSettled, NoneOpen, SettledStays}
-use Rattle.machine_rules.proofs.Machine.{Choice, HasOpen, Label, List, Option, Run, Setting, State, Step, [], ap, choice_of, map, refl, subst, sym, ℕ, ◌∙◌, ◌∷◌, ◌≡◌}
+use Rattle.machine_rules.proofs.Machine.{Choice, HasOpen, Label, List, Option, Run, Setting, State, Step, [], ap, choice_of, map, refl, subst, sym, ℕ, ◌∙◌, ◌∷◌, ◌≡◌, Bool, false, true}
 use Rattle.machine_rules.proofs.WalkSteps.{step_walks}
 use Rattle.machine_rules.specs.Scripts.{ops_of}
 use Rattle.machine_rules.specs.Texts.{label_text}
@@ -42,18 +42,24 @@ module _ (x : Setting) (s : State) (closed : NothingOpen x s) (in_turn : InOrder
   same_choice narrow_l narrow_k line =
       let one = made_is_step x s closed.hosts in_turn.waits c by_c.fits l m makes_c in
       let two = made_is_step x s closed.hosts in_turn.waits d by_d.fits k n makes_d in
-      let told : choice_of l ≡ choice_of k = line_tells_choice x s closed in_turn.waits l k m n one.0 two.0 narrow_l.0 narrow_k.0 line in
-      let same : shown c ≡ shown d = sym one.1.shows ∙ (told ∙ two.1.shows) in
-      let waiter : c.waiter ≡ d.waiter = ap (λ (ch : Choice). ch.woken) same in
-      let member : c.member ≡ d.member = ap (λ (ch : Choice). ch.member) same in
+      let alike : choice_of l ≡ choice_of k = line_tells_choice x s closed in_turn.waits l k m n one.0 two.0 narrow_l.0 narrow_k.0 line in
       let release : c.release ≡ d.release = by_c.release ∙ sym by_d.release in
-      whole waiter member release
+      by (hides_in x s s.turn) refl one.1.shows two.1.shows alike release
     where
       whole : c.waiter ≡ d.waiter → c.member ≡ d.member → c.release ≡ d.release → c ≡ d
       whole waiter member release =
           ap (λ (w : Option ℕ). record { waiter = w; member = c.member; release = c.release }) waiter
           ∙ (ap (λ (h : Option ℕ). record { waiter = d.waiter; member = h; release = c.release }) member
           ∙ ap (λ (ns : List ℕ). record { waiter = d.waiter; member = d.member; release = ns }) release)
+
+      by : (b : Bool) → hides_in x s s.turn ≡ b → choice_of l ≡ told b c → choice_of k ≡ told b d → choice_of l ≡ choice_of k → c.release ≡ d.release → c ≡ d
+      by true hidden one two alike release =
+          let p = by_c.cancel hidden in
+          let q = by_d.cancel hidden in
+          whole (p.0 ∙ sym q.0) (p.1 ∙ sym q.1) release
+      by false clear one two alike release =
+          let same : shown c ≡ shown d = sym one ∙ (alike ∙ two) in
+          whole (ap (λ (ch : Choice). ch.woken) same) (ap (λ (ch : Choice). ch.member) same) release
 
 tells : (x : Setting) (order : List ℕ) (s : State) → IsSettled x.component s.main → NoneOpen s.core → IsScripted s.main → InOrder x.component s → (ls ks : List Label) (t u : State) → AreNarrow ls → AreNarrow ks → RunByArrival x order s ls t → RunByArrival x order s ks u →
     map label_text ls ≡ map label_text ks → (ls ≡ ks) × (t ≡ u)

@@ -3,5 +3,11 @@ pub mod OrderLemmas
 pub mod OfferWalk
 pub mod OwnLemmas
 pub mod SameLemmas
+pub mod CancelOffers
 pub mod ChosenLemmas
 pub mod ArrivalLemmas
+pub mod NumberLists
+pub mod Newcomers
+pub mod Rises
+pub mod CameOrderLemmas
+pub mod RecordPicks

@@ -1,8 +1,15 @@
 -- What is so of nothing, of a wake, of a member that is taken, and of a release is so of each offer.
 use Rattle.laws_choices.specs.Offer.{Offer}
-use Rattle.laws_choices.specs.Offers.{code_kind_offer, code_offer, dec_offer, delivery_offer, gives, gives_woken, join_done_offer, join_offer, join_to_offer, kind_exit_offer, nothing, of_found, op_offer, releases, set_offer, start_offer, take_offer, takes_of, task_offer, tells, thread_offer, unless, wait_offer, wakes, wakes_in, wakes_new, why_offer}
+use Rattle.laws_choices.specs.Offers.{call_offer, cancel_found_offer, cancel_offer, cancel_offer_by, code_kind_offer, code_offer, dec_offer, delivery_offer, gives, gives_woken, join_done_offer, join_offer, join_to_offer, kind_exit_offer, nothing, of_found, op_offer, releases, set_offer, start_offer, take_offer, takes_of, task_offer, tells, thread_offer, unless, wait_offer, wakes, wakes_in, wakes_new, why_offer}
 use Rattle.machine_rules.proofs.Machine.{Bool, Core, Delivery, Entry, ExportKind, Join, None, Op, OpProgress, Option, Place, SetOp, Some, Status, Subtask, TaskOp, Why, admits, at_handle_limit, backpressure_of, cancel_was_delivered, event_of, false, finds_nothing, foot_of, goal_of, has_ended, has_ready_member, held_by_flag, if◌then◌else◌, instance_of, is_async_lifted, is_direct, is_explicit, is_some, is_told, is_watched, join_of, kind_of, leaves_no_result, nat_lt, not, op_progress_of, passes_after_return, passes_after_stop, picked_task_event_of, place_of, set_at, starting_is_published, subtask_at, suc, task_of, true, value_of, zero, ℕ, ◌%◌, ◌*◌, ◌+◌, ◌/◌}
+use Rattle.machine_data.specs.Moves.{waits_cancellable}
+use Rattle.machine_data.specs.Read.{is_joined}
+use Rattle.machine_data.specs.declared.op.CallOp.TheVariants as call_op
+use Rattle.machine_data.specs.declared.op.CallOp.{CallOp}
+use Rattle.machine_rules.specs.Cancels.{CancelCase, ThreadWaits, cancel_case, cancellable}
 use Rattle.machine_rules.specs.Task.{held_by_counter}
+use Rattle.std.specs.Prelude.{[], ◌≡◌}
+use Rattle.std.proofs.Common.{refl}
 
 module _ (P : Offer → Type 0) where
   either : (b : Bool) (o q : Offer) → P o → P q → P (if b then o else q)
@@ -42,6 +49,28 @@ module _ (P : Offer → Type 0) (s : Core) (none : P nothing) (wake : (x : ℕ) 
 
   pub join_has : (n h y : ℕ) → P (join_offer n h y s)
   join_has n h y = found_has (subtask_at (instance_of n s) h s) _ (λ sub. join_to_has n y sub)
+
+  -- ---- Cancels
+
+  -- one of several threads is taken
+  module _ (cancel : (k : ℕ) → P (record { waiters = cancellable k s; members = []; held = [] })) (n : ℕ) where
+    cancel_by_has : (k : ℕ) (x : CancelCase) → P (cancel_offer_by k s x)
+    cancel_by_has k ThreadWaits = cancel k
+    cancel_by_has k _ = none
+
+    cancel_found_has : (sub : Subtask) → P (cancel_found_offer s sub)
+    cancel_found_has (Subtask.Guest k) = unless_has (is_joined (join_of (Subtask.Guest k) s)) _ (cancel_by_has k (cancel_case k s))
+    cancel_found_has (Subtask.Host i) = none
+
+    cancel_has : (h : ℕ) (far : OpProgress) → P (cancel_offer n h s far)
+    cancel_has h (OpProgress.Cancels sub) = none
+    cancel_has h (OpProgress.AwaitsEnd sub) = none
+    cancel_has h _ = found_has (subtask_at (instance_of n s) h s) _ cancel_found_has
+
+    pub call_has : (o : CallOp) → P (call_offer n s o)
+    call_has (call_op.Cancel r x) = cancel_has (value_of n s x) (op_progress_of n s)
+    call_has (call_op.CancelSync r x) = cancel_has (value_of n s x) (op_progress_of n s)
+    call_has _ = none
 
   -- ---- Ops on tasks
 
@@ -88,11 +117,15 @@ module _ (P : Offer → Type 0) (s : Core) (none : P nothing) (wake : (x : ℕ) 
     woken_has : (b : Bool) (x : ℕ) → P (gives_woken b n x s)
     woken_has b x = either P (is_some (picked_task_event_of b (task_of n s) s)) _ _ (either P (has_ready_member x s) _ _ (wake x) none) (take x)
 
-    begins_has : (h : ℕ) → P (of_found (set_at (instance_of n s) h s) (λ x. if finds_nothing n x s then nothing else gives false n x s))
-    begins_has h = found_has (set_at (instance_of n s) h s) _ (λ x. either P (finds_nothing n x s) _ _ none (gives_has false x))
+    -- whether `wait` may take Cancelled
+    abbrev may_cancel : Bool
+    may_cancel = waits_cancellable (task_of n s) s
+
+    begins_has : (h : ℕ) → P (of_found (set_at (instance_of n s) h s) (λ x. if finds_nothing n x s then nothing else gives may_cancel n x s))
+    begins_has h = found_has (set_at (instance_of n s) h s) _ (λ x. either P (finds_nothing n x s) _ _ none (gives_has may_cancel x))
 
     wait_has : (h : ℕ) (far : OpProgress) → P (wait_offer n h s far)
-    wait_has h (OpProgress.Waits x) = woken_has false x
+    wait_has h (OpProgress.Waits x) = woken_has may_cancel x
     wait_has h _ = begins_has h
 
     pub set_has : (o : SetOp) → P (set_offer n s o)
@@ -124,12 +157,12 @@ module _ (P : Offer → Type 0) (s : Core) (none : P nothing) (wake : (x : ℕ) 
     pub thread_taken_has : P (take_offer s (Entry.Thread n))
     thread_taken_has = thread_has (place_of n s)
 
-    pub op_has : ((i : ℕ) (o : Offer) → P o → P (releases (held_by_flag i s) o)) → ((i : ℕ) (o : Offer) → P o → P (releases (held_by_counter i s) o)) → (o : Op) → P (op_offer n s o)
-    op_has flag counter (Op.Task o) = task_has flag counter n o
-    op_has flag counter (Op.Set o) = set_has o
-    op_has flag counter (Op.Data o) = none
-    op_has flag counter (Op.Call o) = none
-    op_has flag counter (Op.Thread o) = none
+    pub op_has : ((i : ℕ) (o : Offer) → P o → P (releases (held_by_flag i s) o)) → ((i : ℕ) (o : Offer) → P o → P (releases (held_by_counter i s) o)) → (o : Op) → ((y : CallOp) → o ≡ Op.Call y → P (call_offer n s y)) → P (op_offer n s o)
+    op_has flag counter (Op.Task o) call = task_has flag counter n o
+    op_has flag counter (Op.Set o) call = set_has o
+    op_has flag counter (Op.Data o) call = none
+    op_has flag counter (Op.Call o) call = call o refl
+    op_has flag counter (Op.Thread o) call = none
 
   pub host_has : (i : ℕ) → P (take_offer s (Entry.Host i))
   host_has i = joined_has (join_of (Subtask.Host i) s)

@@ -1,7 +1,7 @@
 -- Of threads that are all wanted, in one order and each once, there is one order that a release may have.
 use Rattle.laws_picks.proofs.CountLemmas.{itself, often, often_first, often_permuted, one_if, permutes}
 use Rattle.machine_data.specs.Maps.{Records, numbers}
-use Rattle.machine_rules.specs.Picks.{Preference, Seats, goes_in_order, held_before, listed_before, thread_before}
+use Rattle.machine_rules.specs.Picks.{Preference, goes_in_order, held_before, listed_before}
 use Rattle.std.proofs.Common.{T, ap, arith, refl, subst, sym, ◌∙◌}
 use Rattle.std.proofs.lemmas.Bool.Decides.{nat_tests}
 use Rattle.std.proofs.lemmas.Bool.{eq-eqb, eqb-true, ne_eqb}
@@ -109,9 +109,9 @@ no_any test other (n ∷ ns) same =
     ap (λ b. b || list_any test ns) (same n (omega (arith, often_first n n ns, itself n)))
     ∙ ap (λ b. other n || b) (no_any test other ns (λ m some. same m (omega (arith, some, often_first m n ns))))
 
-module _ (seats : Seats) where
+module _ (earlier : ℕ → ℕ → Bool) where
   before : List ℕ → ℕ → ℕ → Bool
-  before held m n = listed_before held m n (thread_before seats m n)
+  before held m n = listed_before held m n (earlier m n)
 
   goes : List ℕ → List ℕ → Bool
   goes held [] = true
@@ -173,11 +173,11 @@ module _ (seats : Seats) where
           differ : (b : Bool) → b ≡ true → b ≡ false → ⊥
           differ b on off = let bad = sym on ∙ off in cc
 
-as_goes : (p : Preference) (ns : List ℕ) → goes_in_order p ns ≡ goes p.seats p.held ns
+as_goes : (p : Preference) (ns : List ℕ) → goes_in_order p ns ≡ goes p.earlier p.held ns
 unfolding goes before
 as_goes p [] = refl
 as_goes p (n ∷ ns) = ap (λ b. not (list_any (λ m. held_before p m n) ns) && b) (as_goes p ns)
 
 -- the order in which wanted threads go is that in which they are wanted
 pub wanted_order : (p : Preference) (order : List ℕ) → ((n : ℕ) → often n p.held ≤ 1) → IsPermutation p.held order → goes_in_order p order ≡ true → order ≡ p.held
-wanted_order p order once perm in_order = one_order p.seats p.held order once perm (sym (as_goes p order) ∙ in_order)
+wanted_order p order once perm in_order = one_order p.earlier p.held order once perm (sym (as_goes p order) ∙ in_order)

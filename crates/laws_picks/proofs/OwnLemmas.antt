@@ -2,15 +2,16 @@
 use Rattle.laws_choices.specs.Offers.{op_offer}
 use Rattle.laws_labels.proofs.ShowLemmas.{may_shows, or_never_shows, or_trap_shows, trap_if_shows}
 use Rattle.laws_labels.specs.Own.{Shows}
-use Rattle.laws_picks.proofs.OfferWalk.{join_has, task_has}
+use Rattle.laws_picks.proofs.OfferWalk.{call_has, join_has, task_has}
 use Rattle.machine_data.specs.Labels.{event_label, held_label, host_label, take_label, wait_label}
-use Rattle.machine_data.specs.Moves.{given_for, NothingPicked, PickedEvent, PickedMember, PickedTaskEvent, may_hand_on, may_publish, picked_event, picked_task_event_only}
+use Rattle.machine_data.specs.Moves.{given_for, NothingPicked, PickedEvent, PickedMember, PickedTaskEvent, may_hand_on, may_publish, picked_event, picked_task_event_only, waits_cancellable}
 use Rattle.machine_data.specs.declared.statuses.Given.TheVariants as given
 use Rattle.machine_data.specs.declared.statuses.Given.{Given}
 use Rattle.machine_rules.proofs.Machine.{Asks, Choice, Component, Continues, Core, Delivery, Entry, Fails, Label, Mark, Never, None, Op, OpProgress, Option, Ordered, Place, Progress, Progresses, SetOp, Some, State, Stops, Subtask, Traps, Why, [], admits, ap, at_handle_limit, finds_nothing, instance_of, is_explicit, op_progress_of, passes_check, place_of, refl, set_at, sym, task_of, true, value_of, Bool, false, ℕ, ◌∙◌, ◌≡◌}
 use Rattle.machine_rules.specs.Ends.{may_tell}
 use Rattle.machine_rules.specs.Finish.{Doer}
 use Rattle.machine_rules.specs.Picks.{taken_of, taken_of_given}
+use Rattle.machine_rules.specs.Progress.{OneOf}
 use Rattle.machine_rules.specs.Sets.{chosen, handed_out, poll_rule, wait_begins_by, wait_goes_on_by, wait_rule}
 use Rattle.machine_rules.specs.Step.{entry_number, own_script, scripted_op_rule}
 use Rattle.machine_rules.specs.Takes.{delivered, delivery_rule, set_delivered, may_tell_starting, start_admitted, start_begins, start_holds, start_rule, take_rule, thread_taken, thread_taken_for}
@@ -61,13 +62,13 @@ module _ (n : ℕ) where
 
     begins_own : (x : ℕ) (b : Bool) → Shows IsOwn (wait_begins_by d n ch s x b)
     begins_own x true = trap_if_shows IsOwn (not (passes_check (instance_of n s) s)) _ _ refl (none_own)
-    begins_own x false = or_never_shows IsOwn (picked_event false (task_of n s) x (chosen n ch s) s) _ (λ g. given_own (handed_out ch s g))
+    begins_own x false = or_never_shows IsOwn (picked_event (waits_cancellable (task_of n s) s) (task_of n s) x (chosen n ch s) s) _ (λ g. given_own (handed_out ch s g))
 
     starts_own : (h : ℕ) → Shows IsOwn (wait_rule d n h ch s OpProgress.Fresh)
     starts_own h = or_trap_shows IsOwn (set_at (instance_of n s) h s) _ _ refl (λ x. begins_own x (finds_nothing n x s))
 
     wait_shows : (h : ℕ) (f : OpProgress) → Shows IsOwn (wait_rule d n h ch s f)
-    wait_shows h (OpProgress.Waits x) = or_never_shows IsOwn (picked_event false (task_of n s) x (chosen n ch s) s) _ (goes_on_own x)
+    wait_shows h (OpProgress.Waits x) = or_never_shows IsOwn (picked_event (waits_cancellable (task_of n s) s) (task_of n s) x (chosen n ch s) s) _ (goes_on_own x)
     wait_shows h _ = starts_own h
 
     poll_shows : (h : ℕ) → Shows IsOwn (poll_rule d n h ch s)
@@ -82,7 +83,7 @@ module _ (n : ℕ) where
   op_own c ch s (Op.Set (SetOp.New r)) some = absurd (some refl)
   op_own c ch s (Op.Set (SetOp.Drop x)) some = absurd (some refl)
   op_own c ch s (Op.Data o) some = absurd (some refl)
-  op_own c ch s (Op.Call o) some = absurd (some refl)
+  op_own c ch s (Op.Call o) some = absurd (some (call_has (λ o. o.members ≡ []) s refl (λ x. refl) (λ k. refl) n o))
   op_own c ch s (Op.Thread o) some = absurd (some refl)
 
   -- ---- Takings
@@ -134,4 +135,5 @@ module _ (n : ℕ) (s : State) (base : Core) (k : ℕ) (l : Label) (t : State) w
   step_own (Fails i) own h = λ e is. absurd (let bad = ap taken_of (sym h.0) ∙ is in cc)
   step_own Never own h = absurd h
   step_own (Ordered ns next) own h = step_own (next h.0) (own h.0) h.1.1
+  step_own (OneOf ns next) own h = step_own (next h.0) (own h.0) h.1.1
   step_own (Asks next) own h = step_own (next h.0) (own h.0) h.1

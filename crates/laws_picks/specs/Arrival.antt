@@ -1,10 +1,10 @@
 -- In which order threads were held last.
 use Rattle.std.specs.List.{list_any}
-use Rattle.std.specs.Prelude.{Bool, List, [], false, filter, if◌then◌else◌, map, not, true, ℕ, ◌++◌, ◌==◌, ◌∷◌, ◌≡◌}
-use Rattle.laws_choices.specs.Offer.{Chosen, FitsOffer}
+use Rattle.std.specs.Prelude.{Bool, List, None, [], false, filter, if◌then◌else◌, map, not, true, ℕ, ◌++◌, ◌==◌, ◌∷◌, ◌≡◌}
+use Rattle.laws_choices.specs.Offer.{Chosen, FitsOffer, first_of}
 use Rattle.laws_choices.specs.Offers.{offer}
 use Rattle.laws_choices.specs.Lines.{IsNarrow}
-use Rattle.laws_choices.specs.Steps.{IsScripted, StepBy}
+use Rattle.laws_choices.specs.Steps.{IsScripted, StepBy, hides_in}
 use Rattle.laws_states.specs.Order.{InOrder}
 use Rattle.laws_states.specs.Settled.{IsSettled, NoneOpen}
 use Rattle.machine_data.specs.Core.{State}
@@ -54,10 +54,12 @@ comes_before m n (k ∷ ks) = if k == m then is_in n ks else comes_before m n ks
 abbrev pub in_order : List ℕ → List ℕ → List ℕ
 in_order order ns = filter (λ n. is_in n ns) order
 
--- The choice fits what the state offers, and releases threads in the order in which they were held last.
+-- The choice fits what the state offers, and releases threads in the order in which they were held last; of several threads that a
+-- cancel may take it is the first one.
 pub record IsByArrival (x : Setting) (order : List ℕ) (s : State) (c : Chosen) : Type 0 where
   pub fits : FitsOffer c (offer x s)
   pub release : c.release ≡ in_order order (offer x s).held
+  pub cancel : hides_in x s s.turn ≡ true → (c.waiter ≡ first_of (offer x s).waiters) × (c.member ≡ None)
 
 -- From s, at which threads were held last in this order, the labels come, each release goes in that order, and the run is in t.
 abbrev pub RunByArrival : Setting → List ℕ → State → List Label → State → Type 0

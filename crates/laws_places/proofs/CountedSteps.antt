@@ -1,4 +1,5 @@
 -- Wakes are counted: each step keeps it.
+use Rattle.machine_data.specs.Moves.{waits_cancellable}
 use Rattle.laws_places.proofs.Laws.{admits, along, and_parts, any_at, any_found, ap, arith, at_turn, AwaitsEvent, base_at, Blocks, Bool, by_number, Call, Came, came_primitive, Choice, choice_of, chosen, Comes, Component, Core, Delivery, delivery_rule, Doer, EndTells, EndTold, EndPrimitives, Entry, event_of, false, Frees, Gains, get, get-change, picked_event, goes_to, has_ready_member, has_waiter, Holds, host_taken, HostTold, op_progress_of, OpProgress, in_set_is, inl, InOrderFor, inr, is_callback_waiter, is_delivery_for, is_for_start, is_in_set, is_inside_wait, is_join, is_open, is_ready_member, is_some, is_wait, is_waiter, is_waiting_on, is_woken_at, is_woken_for, IsRunner, Join, join_of, join_rule, JoinsSet, keep_stay, Label, Mark, MayMove, MayPut, MayStand, member_same, nat_tests, next_entry, None, none_ready, now_joined, on_thread, Op, op_in, op_of, op_rule, Operand, Option, option_and_then, option_map, option_map_or, or_never, Place, place_of, plain, plain_as, popped, popped_is, popped_threads, Progress, Progresses, Queues, ready_same, Records, refl, runner_at, running, Runs, RunsAlone, said_plain, same_subtask, Scene, scene_as, script_of, set_place, SetOp, Setting, shift_keeps, shifted_calls, shifted_works, Shifts, shifts_shifted, Some, start_rule, StartTold, State, Status, status_of_end, StepAs, subst, Subtask, SubtaskEnd, Suspends, sym, take_label, TakeStep, task_of, TellsLater, TellsNever, TellsNone, TellsNow, Thread, thread_of_entry, thread_taken, thread_taken_for, true, Turn, Turned, Turns, TurnStepAs, Uncovers, unwrap_or, value_of, wait_goes_on, wait_goes_on_by, wait_rule, waiting_of, Waits, WaitsAgain, wake_why, WakesCounted, WakesOne, Walk, WalkedAs, WasReady, weaken, Why, woken_at, woken_place, written_as, written_at, ℕ, ⊎_elim, ◌==◌, ◌∙◌, ◌≡◌, ◌⊎◌}
 use Rattle.laws_places.proofs.{Balance.Balance, Balance.Bare, Balance.Gained, Balance.Passed, Balance.Quiet, Balance.Took, Balance.balanced, Balance.bare_le, Balance.ready_le, Balance.same_is, Balance.same_self, Balance.woken_le, Entries.next_first, Entries.popped_cleared, PlaceLaw.ReadyAt, PlaceLaw.entry_ready, PlaceLaw.yield_leaves, PlaceSteps.Withdrawable, PlaceSteps.step_by, RestLemmas.ComesTo, RestLemmas.Rests, RestLemmas.is_rest, RestLemmas.rests_stay, RestLemmas.rests_walk, RestLemmas.runs_free, RestLemmas.trip_rests, WaitsKept.wait_op, WakeRules.HandedOn, WakeRules.IsSilent, WakeRules.NobodyWaits, WakeRules.NoneReady, WakeRules.Spends, WakeRules.StartTells, WakeRules.StaysWoken, WakeRules.TookMember, WakeRules.WokeOne, WakeRules.WokeThis, WakeRules.delivery_spends, WakeRules.is_past, WakeRules.join_rule_tells, WakeRules.moved_past, WakeRules.start_tells, WakeRules.wait_spends, WakeRules.woken_is_past, WokenTrips.ReadyFor, WokenTrips.Wends, WokenTrips.is_wending, WokenTrips.trip_on}
 
@@ -98,7 +99,7 @@ spends_base z y n s t (HandedOn woke) = HandedOn (woke_base z y s t woke)
 spends_base z y n s t (NoneReady none) = NoneReady (sym (ready_same y s (popped z s) (ap (λ (c : Core). c.calls) (popped_is z s)) (ap (λ (c : Core). c.works) (popped_is z s))) ∙ none)
 
 did_wait : (d : Doer) (o : Op) (c : Component) (n : ℕ) (s : Core) (ch : Choice) (r : ℕ) (v : Operand) (y : ℕ) → o ≡ Op.Set (SetOp.Wait r v) → op_progress_of n s ≡ OpProgress.Waits y →
-    op_rule d c n s ch o ≡ or_never (picked_event false (task_of n s) y (chosen n ch s) s) (wait_goes_on_by d n y ch s)
+    op_rule d c n s ch o ≡ or_never (picked_event (waits_cancellable (task_of n s) s) (task_of n s) y (chosen n ch s) s) (wait_goes_on_by d n y ch s)
 did_wait d o c n s ch r v y op far = ap (λ (o : Op). op_rule d c n s ch o) op ∙ ap (λ (f : OpProgress). wait_rule d n (value_of n s v) ch s f) far
 
 did_join : (d : Doer) (o : Op) (c : Component) (n : ℕ) (s : Core) (ch : Choice) (v u : Operand) → o ≡ Op.Set (SetOp.Join v u) →
@@ -372,7 +373,7 @@ module _ (by_whom : Op → Doer) {ops : ℕ → Op} (x : Setting) (s : State) (l
         waits on =
             let far : op_progress_of n s.core ≡ OpProgress.Waits y = inside_is y (op_progress_of n s.core) (sym (ap (λ (o : Option Place). woken_place y o (op_progress_of n s.core)) runs) ∙ (sym (woken_at y n s.core) ∙ on)) in
             let o = wait_is (ops n) (wait_op ops x.component s.core h.fits n y far) in
-            let r = wait_spends s t l n y (by_whom (ops n)) (choice_of l) (unwaiting n y is) (picked_event false (task_of n s.core) y (chosen n (choice_of l) s.core) s.core) refl
+            let r = wait_spends s t l n y (waits_cancellable (task_of n s.core) s.core) (by_whom (ops n)) (choice_of l) (unwaiting n y is) (picked_event (waits_cancellable (task_of n s.core) s.core) (task_of n s.core) y (chosen n (choice_of l) s.core) s.core) refl
             (subst (λ (p : Progress). Progresses s s.core n p l t) (did_wait (by_whom (ops n)) (ops n) x.component n s.core (choice_of l) o.0 o.1.0 y o.1.1 far) progress) in
             spent n is (silent_gains r.0 start (join (ap is_join o.1.1))) r.1
 

@@ -1,4 +1,5 @@
 -- However many instances there are, one holding entry of an instance runs at a time: without an instance there is no call, so no entry begins.
+use Rattle.machine_data.specs.declared.scenario.Version.{Version}
 use Rattle.laws_places.proofs.Laws.{[], act_of, after_primitive, Allowed, along, ap, arith, Asked, begun_holder, Bool, Call, call_came, CallAfter, Callee, callee_of_op, CalleesAre, Caller, CallsThere, Choice, choice_of, component_of, Core, DeadlockStep, Does, EmptyFor, Ends, Entry, entry_number, FailsNow, false, fresh, FuturesStep, get, get-empty, Grown, has_moving_work, history, holds_one, host_label, InOrder, is_unended_take, Label, less_holder, line_of, List, Main, main_rule, MainOpDef, MainPlace, MainProgress, MainProgresses, MainStep, Mark, may, may_deadlock, NewCall, next_entry, next_polled, NoCall, None, Op, op_at, op_callee, op_in, op_of, opening, OpeningInOrder, ops_plain, Option, option_map, Pends, Place, place_of, plain, plain_scene, Poll, poll_of, Polled, popped, popped_threads, Progresses, refl, RestStep, returned_holder, Run, runs_hold_one, SameMain, Scene, Scripted, ScriptStep, Setting, Some, some_none, State, Step, step_walks, StillPends, Stops, subst, sym, take_rule, TakeStep, Thread, thread_taken, true, Turn, TurnStep, Unscripted, Walk, Walked, Primitive, ℕ, ◌<◌, ◌∙◌, ◌∷◌, ◌≡◌}
 use Rattle.laws_places.proofs.OrderLemmas.{opening_in_order, step_in_order}
 use Rattle.laws_places.specs.Once.{ScriptsHoldOne}
@@ -167,17 +168,17 @@ run_quiet x none s empty (l ∷ ls) t run =
     rw (step_quiet x s l run.0 empty run.1.0, less_none (returned_holder s.core l))
     (run_quiet x none run.0 (empty_after x none s l run.0 empty run.1.0) ls t run.1.1)
 
-none_made : (handle_limit capacity : ℕ) → NoCalls (fresh 0 handle_limit capacity)
+none_made : (rules : Version) (handle_limit capacity : ℕ) → NoCalls (fresh rules 0 handle_limit capacity)
 unfolding fresh
-none_made handle_limit capacity k = get-empty {X = Call} k
+none_made rules handle_limit capacity k = get-empty {X = Call} k
 
 pub scripts_hold_one : ScriptsHoldOne
 unfolding ScriptsHoldOne OpeningInOrder
-scripts_hold_one x codes ℕ.zero handle_limit capacity p callees ls t run =
-    run_quiet x callees (opening 0 handle_limit capacity (Scripted p)) (record {
-      order = opening_in_order x.component codes 0 handle_limit capacity (Scripted p);
-      calls = none_made handle_limit capacity;
+scripts_hold_one x codes rules ℕ.zero handle_limit capacity p callees ls t run =
+    run_quiet x callees (opening rules 0 handle_limit capacity (Scripted p)) (record {
+      order = opening_in_order x.component codes rules 0 handle_limit capacity (Scripted p);
+      calls = none_made rules handle_limit capacity;
       main = tt;
     }) ls t run
-scripts_hold_one x codes (ℕ.suc n) handle_limit capacity p callees ls t run =
-    runs_hold_one x (ℕ.suc n) handle_limit capacity p ls t (record { some = omega arith; callees = callees }) run
+scripts_hold_one x codes rules (ℕ.suc n) handle_limit capacity p callees ls t run =
+    runs_hold_one x rules (ℕ.suc n) handle_limit capacity p ls t (record { some = omega arith; callees = callees }) run

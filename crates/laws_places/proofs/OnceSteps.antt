@@ -1,4 +1,5 @@
 -- Each step owes of the ends what it should, and so each run has each end once.
+use Rattle.machine_data.specs.declared.scenario.Version.{Version}
 use Rattle.laws_places.proofs.Laws.{[], abort_kept, AbortsOwn, along, Answered, ap, arith, base_at, base_is, CallsFound, codes_at, Core, Due, due_over, ends_go, ends_once, EndStep, EndsTold, first_works, fresh, get, get-empty, HasValue, op_progress_of, OpProgress, InOrder, instance_of, is_some, is_spawn, is_sync_work, Label, le_refl, Main, main_opening, MainPlace, MayAbort, MayBeAborted, named_other, of_base, opening, opening_ends_told, opening_works, OpeningInOrder, Over, ProgramAborts, refl, return_step, runner_there, SameMain, Scene, scene_of, ScriptAborts, Scripted, Setting, slice_get, Some, spawned_at, State, Status, Step, step_ends, step_walks, subst, Subtask, subtask_at, suc, sym, task_of, Thread, true, Unscripted, unwrap_or, Walked, work_caller_of, WorkCaller, works_primitive, WorksGo, WorksHold, zero, ℕ, ⊎_elim, ◌-◌, ◌≡◌}
 use Rattle.laws_places.proofs.OrderLemmas.{asked, held_of, opening_in_order, step_in_order}
 use Rattle.laws_places.specs.Once.{IsUnbegun, RunsAreOnce}
@@ -90,39 +91,39 @@ module _ (x : Setting) (s : State) (l : Label) (t : State) (k : Known x s) (step
     over = λ sub e due. due_over (end_step sub) e ((end_step sub).comes e due);
   }
 
-none_due : (instances handle_limit capacity : ℕ) (sub : Subtask) (e : Status) → Due sub e (fresh instances handle_limit capacity) → ⊥
+none_due : (rules : Version) (instances handle_limit capacity : ℕ) (sub : Subtask) (e : Status) → Due sub e (fresh rules instances handle_limit capacity) → ⊥
 unfolding fresh
-none_due instances handle_limit capacity (Subtask.Guest j) e due = absurd (grind (arith, get-empty))
-none_due instances handle_limit capacity (Subtask.Host i) e due = absurd (grind (arith, get-empty))
+none_due rules instances handle_limit capacity (Subtask.Guest j) e due = absurd (grind (arith, get-empty))
+none_due rules instances handle_limit capacity (Subtask.Host i) e due = absurd (grind (arith, get-empty))
 
-none_held : (instances handle_limit capacity : ℕ) (n : ℕ) → HasValue n (fresh instances handle_limit capacity) → ⊥
+none_held : (rules : Version) (instances handle_limit capacity : ℕ) (n : ℕ) → HasValue n (fresh rules instances handle_limit capacity) → ⊥
 unfolding fresh
-none_held instances handle_limit capacity n has = let o = get-empty {X = Thread} n in absurd (cc)
+none_held rules instances handle_limit capacity n has = let o = get-empty {X = Thread} n in absurd (cc)
 
-zero_unmade : (instances handle_limit capacity : ℕ) → MayBeAborted (fresh instances handle_limit capacity) 0
+zero_unmade : (rules : Version) (instances handle_limit capacity : ℕ) → MayBeAborted (fresh rules instances handle_limit capacity) 0
 unfolding fresh
-zero_unmade instances handle_limit capacity = record { made = le_refl _; other = grind (arith, get-empty) }
+zero_unmade rules instances handle_limit capacity = record { made = le_refl _; other = grind (arith, get-empty) }
 
-opening_spawns : (instances handle_limit capacity : ℕ) (main : Main) → IsUnbegun main → (p : MainPlace) (j : ℕ) → main ≡ Scripted p →
-    MayBeAborted (fresh instances handle_limit capacity) (spawned_at p j)
-opening_spawns instances handle_limit capacity Unscripted begun p j is = absurd (cc)
-opening_spawns instances handle_limit capacity (Scripted q) begun p j is = let e : p ≡ main_opening = cc in rw e (none_spawned (j - 1))
+opening_spawns : (rules : Version) (instances handle_limit capacity : ℕ) (main : Main) → IsUnbegun main → (p : MainPlace) (j : ℕ) → main ≡ Scripted p →
+    MayBeAborted (fresh rules instances handle_limit capacity) (spawned_at p j)
+opening_spawns rules instances handle_limit capacity Unscripted begun p j is = absurd (cc)
+opening_spawns rules instances handle_limit capacity (Scripted q) begun p j is = let e : p ≡ main_opening = cc in rw e (none_spawned (j - 1))
   where
-    none_spawned : (n : ℕ) → MayBeAborted (fresh instances handle_limit capacity) (unwrap_or (slice_get [] n) 0)
-    none_spawned zero = zero_unmade instances handle_limit capacity
-    none_spawned (suc n) = zero_unmade instances handle_limit capacity
+    none_spawned : (n : ℕ) → MayBeAborted (fresh rules instances handle_limit capacity) (unwrap_or (slice_get [] n) 0)
+    none_spawned zero = zero_unmade rules instances handle_limit capacity
+    none_spawned (suc n) = zero_unmade rules instances handle_limit capacity
 
 pub runs_are_once : RunsAreOnce
 unfolding OpeningInOrder RunsAreOnce
-runs_are_once x codes instances handle_limit capacity main begun ls t run =
-    let s : State = opening instances handle_limit capacity main in
+runs_are_once x codes rules instances handle_limit capacity main begun ls t run =
+    let s : State = opening rules instances handle_limit capacity main in
     ends_once x (Known x) (λ s l t k step. known_after x s l t k step) (λ s l t k step sub. end_step x s l t k step sub)
     (λ s l t k step. return_step x s l t (w x s l t k step)) s
     (record {
-      order = opening_in_order x.component codes instances handle_limit capacity main;
-      told = opening_ends_told instances handle_limit capacity;
-      works = opening_works instances handle_limit capacity;
-      spawns = opening_spawns instances handle_limit capacity main begun;
-      zero = zero_unmade instances handle_limit capacity;
-      over = λ sub e due. absurd (none_due instances handle_limit capacity sub e due);
-    }) (λ sub e due. none_due instances handle_limit capacity sub e due) (none_held instances handle_limit capacity) ls t run
+      order = opening_in_order x.component codes rules instances handle_limit capacity main;
+      told = opening_ends_told rules instances handle_limit capacity;
+      works = opening_works rules instances handle_limit capacity;
+      spawns = opening_spawns rules instances handle_limit capacity main begun;
+      zero = zero_unmade rules instances handle_limit capacity;
+      over = λ sub e due. absurd (none_due rules instances handle_limit capacity sub e due);
+    }) (λ sub e due. none_due rules instances handle_limit capacity sub e due) (none_held rules instances handle_limit capacity) ls t run

@@ -1,4 +1,5 @@
 -- A state in order: each opening state is, and each step leads from one to one.
+use Rattle.machine_data.specs.declared.scenario.Version.{Version}
 use Rattle.laws_places.proofs.Laws.{[], after_primitive, AllFit, Allowed, along, ap, apart_after, arith, at_place, Awake, base_at, Bool, ByHandle, ByOp, Call, callee_of, calls_begin, calls_told_primitive, CallsAwaited, CallsGo, CallsHold, CallsInside, CallsNamed, CallsThere, CallsTold, can_come, cancelled_call, cancels_primitive, CancelsGo, CancelsWatched, Codes, codes_at, codes_plain, CodesAt, Component, Core, did, directs_primitive, DirectsOnTop, DirectsRun, Doer, empty, EndPrimitives, event_of, false, few_primitive, first_waits, fits_primitive, FitsAs, fresh, Gains, get, get-empty, has_waiter, HasNotRun, HasSubtask, held_primitive, Homed, homed_primitive, host_event_primitive, host_taken, HostsAwaited, housed_primitive, op_progress_of, OpProgress, inl, InOrder, InOrderAs, InOrderFor, InPlace, inr, Inside, inside_primitive, InsideThere, instance_of, is_awaited, is_fresh, is_open, is_ready_member, is_some, is_sync_call, is_there, IsRunner, joins_primitive, JoinsNamed, KnownCancels, KnownHome, Label, Layered, layered_primitive, le_refl, le_trans, length, List, made_works_primitive, MakesFew, member_same, names_go_primitive, NamesGo, NamesHold, next_thread, None, NoneAdmitted, Numbered, of_base, OfBase, Op, op_at_place, op_of, op_same, op_there, opening, opening_holds, opening_joins, opening_named, opening_names_known, opening_sets, opening_works_known, opening_works_named, OpeningInOrder, ops_of, option_map, option_map_or, own_script, Place, place_of, Placed, plain, plain_as, plain_scene, queued_handle, queued_watched, ready_goes_primitive, ReadyGoes, refl, Run, runner_there, RunnerHoused, said_plain, SameOp, Scene, scene_as, script_in, sets_named_primitive, SetsNamed, Setting, Some, starts_primitive, StartsAwaited, StartsFirst, StartsGo, StartsThere, State, Status, Steady, steady, Step, step_over, step_walks, StepAs, StepInOrder, StepsMakeFew, Strands, subst, Subtask, subtask_under_way, sym, task_of, telling_primitive, TellingGoes, Thread, Traced, traced_primitive, true, Turn, TurnStep, TurnStepAs, Unbegun, unbegun_primitive, undelivered_end, Waited, WaitsAtHome, WaitsPlaced, WakesCounted, Walk, Walked, walked_goes, WalkedAs, was_started, WasCall, watched_primitive, Primitive, primitive_goes, Work, works_go, works_hold, works_named_primitive, works_said_primitive, works_told, WorksKnown, WorksNamed, WorksQueued, WorksSaid, WorksTold, writes_over, written_at, ℕ, ⊎_elim, ◌∙◌, ◌∷◌, ◌≡◌, ◌≤◌, ◌⊎◌}
 use Rattle.laws_places.proofs.{AloneLemmas.step_alone, BlockedLemmas.step_blocked, CallersSteps.callers_kept, CallersSteps.feet_kept, CallersSteps.free_kept, CallsBack.back_apart, CountedSteps.step_counted, Directs.directs_on_top, HostsAwaited.Asked, HostsAwaited.step_asked, HostsAwaited.step_works, InsideLemmas.step_inside, PlaceLaw.Arrives, PlaceSteps.Withdrawable, PlaceSteps.settled_run, PlaceSteps.step_arrives, PlaceSteps.step_by, WaitsKept.AtWaits, WaitsKept.far_waits, WaitsKept.step_waits, WaitsKept.wait_op, WorksQueued.stands_of}
 use Rattle.laws_places.specs.KeptPlaces.{ReachedInOrder, ReachedInPlace, StepsKeepPlaces}
@@ -516,21 +517,21 @@ step_in_order x s l t h step =
 
 -- ---- The first state
 
-opening_placed : (instances handle_limit capacity : ℕ) → Placed (fresh instances handle_limit capacity)
+opening_placed : (rules : Version) (instances handle_limit capacity : ℕ) → Placed (fresh rules instances handle_limit capacity)
 unfolding fresh
-opening_placed instances handle_limit capacity n = grind (arith, get-empty)
+opening_placed rules instances handle_limit capacity n = grind (arith, get-empty)
 
-opening_counted : (instances handle_limit capacity : ℕ) → WakesCounted (fresh instances handle_limit capacity)
+opening_counted : (rules : Version) (instances handle_limit capacity : ℕ) → WakesCounted (fresh rules instances handle_limit capacity)
 unfolding fresh has_waiter empty
-opening_counted instances handle_limit capacity y has = absurd (grind arith)
+opening_counted rules instances handle_limit capacity y has = absurd (grind arith)
 
 pub opening_in_order : OpeningInOrder
 unfolding fresh OpeningInOrder
-opening_in_order c codes instances handle_limit capacity main =
-    let q : CallsHold c (fresh instances handle_limit capacity) = opening_holds c instances handle_limit capacity in
+opening_in_order c codes rules instances handle_limit capacity main =
+    let q : CallsHold c (fresh rules instances handle_limit capacity) = opening_holds c rules instances handle_limit capacity in
     record {
       codes = codes;
-      in_place = record { placed = opening_placed instances handle_limit capacity; runs = λ n e. absurd (cc) };
+      in_place = record { placed = opening_placed rules instances handle_limit capacity; runs = λ n e. absurd (cc) };
       strands = grind (arith, get-empty);
       directs = λ n there implicit direct. let o = get-empty {X = Thread} n in absurd (cc);
       works = grind (arith, get-empty);
@@ -538,14 +539,14 @@ opening_in_order c codes instances handle_limit capacity main =
       numbered = q.numbered;
       calls_there = λ n k e. let o = get-empty {X = Thread} n in absurd (cc);
       waits = grind (arith, get-empty);
-      calls_named = opening_named instances handle_limit capacity;
-      works_named = opening_works_named instances handle_limit capacity;
-      names = opening_names_known instances handle_limit capacity;
+      calls_named = opening_named rules instances handle_limit capacity;
+      works_named = opening_works_named rules instances handle_limit capacity;
+      names = opening_names_known rules instances handle_limit capacity;
       calls = grind (arith, get-empty);
-      works_known = opening_works_known instances handle_limit capacity;
+      works_known = opening_works_known rules instances handle_limit capacity;
       waits_placed = λ n y far. let o = get-empty {X = Thread} n in absurd (cc);
-      sets_named = opening_sets instances handle_limit capacity;
-      joins_named = opening_joins instances handle_limit capacity;
+      sets_named = opening_sets rules instances handle_limit capacity;
+      joins_named = opening_joins rules instances handle_limit capacity;
       kinds = q.kinds;
       deliveries = q.deliveries;
       fits = λ n t at. let o = get-empty {X = Thread} n in absurd (cc);
@@ -570,7 +571,7 @@ opening_in_order c codes instances handle_limit capacity main =
           under = λ n m is. let o = get-empty {X = Thread} n in absurd (cc);
           behind = λ n f is fresh. let o = get-empty {X = Thread} n in absurd (cc);
         };
-        counted = opening_counted instances handle_limit capacity;
+        counted = opening_counted rules instances handle_limit capacity;
       };
     }
 
@@ -583,8 +584,8 @@ run_in_order x s h (l ∷ ls) t run = run_in_order x run.0 (step_in_order x s l 
 pub reached_in_order : ReachedInOrder
 unfolding OpeningInOrder ReachedInOrder
 reached_in_order x s r =
-    let first = opening_in_order x.component r.scripts r.instances r.handle_limit r.capacity r.main in
-    run_in_order x (opening r.instances r.handle_limit r.capacity r.main) first r.labels s r.run
+    let first = opening_in_order x.component r.scripts r.version r.instances r.handle_limit r.capacity r.main in
+    run_in_order x (opening r.version r.instances r.handle_limit r.capacity r.main) first r.labels s r.run
 
 pub reached_in_place : ReachedInPlace
 unfolding ReachedInOrder ReachedInPlace

@@ -1,6 +1,7 @@
 -- Where the primitives of a step bring threads while the running thread stays.
 use Rattle.laws_places.proofs.Laws.{[], add_call, add_group, add_set, add_thread, add_work, after_placing, after_primitive, ap, arith, at_place, behind, behind_one, by_number, call_made, callers_of, callers_say, Core, count_work, displaced, false, foot_of, free_handle, free_thread_handle, get, get-change, get-insert, get-remove, give_handle, give_result, give_thread_handle, given_unchecked, inl, inr, insert, is_for_start, is_fresh, is_parked, is_some, is_there, List, MakeCall, MakeThread, Mark, MayPut, moved_there, nat_tests, newest, no_time, None, NoneCame, older, on_call, on_instance, on_thread, on_work, one_time, Option, option_map, passed_on, Place, place_kept, place_of, place_written, Places, Placing, placing_shifted, poll_pends, popped_threads, Promote, promoted, push_high, push_high_first, push_low, Put, put_at, put_high, put_low, put_switch, refl, remove_call, remove_group, remove_set, remove_thread, remove_work, RemoveThread, resumed_all, resumed_callers, Scene, set_backpressure, set_callers, set_cancel_delivered, set_cancelled, set_course, set_do_not_enter, set_do_not_suspend, set_end, set_event, set_exited, set_high, set_op_progress, set_join, set_low, set_task_event, set_phase, set_place, set_place_is, set_place_there, set_position, set_register, set_result, set_saved_callee, set_saved_own, set_script, set_stage, set_started, set_starting_published, set_subtask_handle, set_switch, set_thread_handle, set_trapped, set_uninteresting, set_memory_cell, Some, Stand, stand, Stays, stays_put, Stop, stopped, stopped_shifted, subst, sym, take_result, TakeHost, TakePush, Thread, times, times-newest, true, Turn, unqueued, Why, why_of, with_handle, with_thread_handle, Withdraw, Primitive, work_queued, ℕ, ⊎_elim, ◌+◌, ◌==◌, ◌∙◌, ◌∷◌, ◌≡◌, ◌≤◌, ◌⊎◌}
 use Rattle.laws_places.proofs.PlaceLaw.{entry_ready, Follows, fresh_still, listed, parked_at, ReadyAt, watch, withdraws_waits}
+unfoldable use Rattle.machine_data.specs.Write.{arrive, set_cancel_asked}
 
 -- before any thread has come behind another one in the turn of a thread
 abbrev pub Early : Scene → Core → Type 0
@@ -194,7 +195,7 @@ module _ {a : Scene} {b : Core} {n : ℕ} {q : Option Place} (f : Follows a b n 
       gone (Some p) is e = absurd (let below = (given_unchecked n q [] s st j (ap is_some is)).1 in omega (arith, below, e))
 
   pub stay_moves : (w : Primitive) → Stays a w s → (j : ℕ) → Moves a s (after_primitive w s) j
-  unfolding add_call add_group add_set add_thread add_work count_work free_handle free_thread_handle give_handle give_result give_thread_handle on_call on_instance on_thread on_work push_high remove_call remove_group remove_set remove_thread remove_work set_backpressure set_cancel_delivered set_cancelled set_course set_do_not_enter set_do_not_suspend set_end set_event set_exited set_op_progress set_join set_task_event set_phase set_position set_register set_result set_saved_callee set_saved_own set_script set_stage set_started set_starting_published set_subtask_handle set_thread_handle set_trapped set_uninteresting set_memory_cell take_result call_made with_handle with_thread_handle work_queued poll_pends
+  unfolding arrive set_cancel_asked add_call add_group add_set add_thread add_work count_work free_handle free_thread_handle give_handle give_result give_thread_handle on_call on_instance on_thread on_work push_high remove_call remove_group remove_set remove_thread remove_work set_backpressure set_cancel_delivered set_cancelled set_course set_do_not_enter set_do_not_suspend set_end set_event set_exited set_op_progress set_join set_task_event set_phase set_position set_register set_result set_saved_callee set_saved_own set_script set_stage set_started set_starting_published set_subtask_handle set_thread_handle set_trapped set_uninteresting set_memory_cell take_result call_made with_handle with_thread_handle work_queued poll_pends
   stay_moves (Places x) ok j = as_moves (after_placing x s) (after_primitive (Places x) s) j (λ i. ap (λ (t : Core). place_of i t) (placing_shifted x s).only) (ap (λ (t : Core). place_of j t) (placing_shifted x s).only) (place_moves x ok j)
   stay_moves (Withdraw k) ok j =
       let early : Early a s = ((_, ok.0.1.1.1.1.1.0), ok.1.1) in

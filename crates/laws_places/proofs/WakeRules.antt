@@ -1,4 +1,5 @@
 -- What becomes of wakes in the rules that use one up, and in those of starts and joins.
+unfoldable use Rattle.machine_data.specs.Write.{arrive}
 use Rattle.laws_places.proofs.Laws.{activated, activated_woken, advanced, ap, arith, at_handle_limit, at_turn, Bool, Call, Choice, chosen, Component, Core, Delivery, delivery_rule, Doer, event_label, event_of, ExportKind, false, finish, foot_of, get, get-change, PickedEvent, picked_event, picked_event_none, give_thread_handle, Continues, goes_to, handed_on, handed_out, has_ready_member, held_label, host_taken, if◌then◌else◌, inl, inr, instance_of, is_callback_waiter, is_explicit, is_none, is_ready_member, is_some, is_told, is_waiter, is_waiting_on, is_woken_at, Join, join_done, join_done_by, join_label, join_of, join_others, join_rule, join_to, join_to_by, joined, joins, kind_of, Label, Mark, may, may_hand_on, may_tell, may_tell_starting, may_wake, may_wake_new, member_same, PickedMember, Moved, moved_over, moved_to, nat_tests, NoAnswer, NothingPicked, None, none_waits, on_call, on_instance, on_thread, on_work, Option, option_and_then, option_map_or, or_never, or_trap, TaskEvent, PickedTaskEvent, OwnScript, Place, place_of, placing_shifted, Progresses, published, published_wakes, push_high, put_high, received, received_by, received_woken, received_woken_by, Records, refl, running, same_subtask, set_at, set_cancel_delivered, set_delivered, set_do_not_enter, set_do_not_suspend, set_event, set_given, set_op_progress, set_join, set_task_event, set_place, set_place_is, set_position, set_register, set_saved_own, set_script, set_started, set_starting_published, set_thread_handle, shifted_calls, Some, SomeHost, start_admitted, start_begins, start_holds, start_rule, start_sets_flags, starting_is_published, starting_told, State, Status, Stop, stopped, stopped_shifted, Stops, subst, Subtask, subtask_at, suc, sym, take_holds, take_label, taken, task_of, told, told_spares, told_to, ToldSpares, ToldTo, Trap, trap_if, true, Turn, wait_goes_on, wait_goes_on_by, wait_label, wake, wake_why, waken_by, wakes_joined, wakes_one, WakesOne, Why, with_thread_handle, written_by, zero, ℕ, ⊎_elim, ◌==◌, ◌∙◌, ◌≡◌, ◌⊎◌}
 use Rattle.machine_data.specs.declared.statuses.Given.{Given as Handout}
 use Rattle.machine_data.specs.Read.{is_watched as is_in_own}
@@ -98,11 +99,11 @@ module _ (s t : State) (l : Label) (n y : ℕ) where
   unfolding at_turn
   led b new u is h = subst (λ (v : State). Spends y n b v.core) (sym is) h
 
-  pub wait_spends : (d : Doer) (ch : Choice) → is_waiter y n s.core ≡ false → (o : Option PickedEvent) → picked_event false (task_of n s.core) y (chosen n ch s.core) s.core ≡ o →
+  pub wait_spends : (may_cancel : Bool) (d : Doer) (ch : Choice) → is_waiter y n s.core ≡ false → (o : Option PickedEvent) → picked_event may_cancel (task_of n s.core) y (chosen n ch s.core) s.core ≡ o →
       Progresses s s.core n (or_never o (wait_goes_on_by d n y ch s.core)) l t → IsSilent l × Spends y n s.core t.core
-  wait_spends d ch own None is row = absurd row
-  wait_spends d ch own (Some NothingPicked) is row = (silent_as row.0 (refl, λ c s t. refl), led s.core _ _ row.1 (NoneReady (picked_event_none false (task_of n s.core) y (chosen n ch s.core) s.core is)))
-  wait_spends d ch own (Some (PickedTaskEvent e)) is row = by (may_hand_on y (PickedTaskEvent e) ch.woken s.core) refl row
+  wait_spends may_cancel d ch own None is row = absurd row
+  wait_spends may_cancel d ch own (Some NothingPicked) is row = (silent_as row.0 (refl, λ c s t. refl), led s.core _ _ row.1 (NoneReady (picked_event_none may_cancel (task_of n s.core) y (chosen n ch s.core) s.core is)))
+  wait_spends may_cancel d ch own (Some (PickedTaskEvent e)) is row = by (may_hand_on y (PickedTaskEvent e) ch.woken s.core) refl row
     where
       v : Handout
       v = handed_out ch s.core (PickedTaskEvent e)
@@ -111,14 +112,14 @@ module _ (s t : State) (l : Label) (n y : ℕ) where
           Progresses s s.core n (may b (Continues (wait_label n v ch.woken) (received_woken_by d n y ch.woken (PickedTaskEvent e) v s.core) n)) l t → IsSilent l × Spends y n s.core t.core
       by false is row = absurd row
       by true is row = (silent_as row.0 (wait_silent n v ch.woken), led s.core _ _ row.1 (hands y n e ch.woken s.core _ is (λ m other. received_place d m n e v (handed_on y (PickedTaskEvent e) ch.woken s.core)) own))
-  wait_spends d ch own (Some (PickedMember sub)) is row = by (may_hand_on y (PickedMember sub) ch.woken s.core) row
+  wait_spends may_cancel d ch own (Some (PickedMember sub)) is row = by (may_hand_on y (PickedMember sub) ch.woken s.core) row
     where
       v : Handout
       v = handed_out ch s.core (PickedMember sub)
 
       by : (b : Bool) → Progresses s s.core n (may b (Continues (wait_label n v ch.woken) (received_woken_by d n y ch.woken (PickedMember sub) v s.core) n)) l t → IsSilent l × Spends y n s.core t.core
       by false row = absurd row
-      by true row = (silent_as row.0 (wait_silent n v ch.woken), led s.core _ _ row.1 (TookMember sub (picked_event_member false (task_of n s.core) y (chosen n ch s.core) s.core sub is) (received_event d n sub v (handed_on y (PickedMember sub) ch.woken s.core))))
+      by true row = (silent_as row.0 (wait_silent n v ch.woken), led s.core _ _ row.1 (TookMember sub (picked_event_member may_cancel (task_of n s.core) y (chosen n ch s.core) s.core sub is) (received_event d n sub v (handed_on y (PickedMember sub) ch.woken s.core))))
 
 -- ---- A delivery for the set
 
@@ -134,12 +135,19 @@ activated_event n (Subtask.Host i) v u = grind (arith, nat_tests, get-change)
 held_woken : (y n : ℕ) (t : Core) → place_of n t ≡ Some (Place.Held (Why.Delivery (Delivery.Set y))) → is_woken_at y n t ≡ true
 held_woken y n t at = grind (arith, nat_tests)
 
+-- who has come changes no place
+arrived_place : (m n : ℕ) (s : Core) → place_of m (arrive n s) ≡ place_of m s
+unfolding arrive on_thread
+arrived_place m n s = grind (arith, nat_tests, get-change)
+
 held_at : (n : ℕ) (w : Why) (s : Core) → is_some (place_of n s) ≡ true → place_of n (take_holds n w s) ≡ Some (Place.Held w)
 unfolding take_holds
 held_at n w s there =
     let u = stopped (foot_of n s) s in
     let same = (placing_shifted (Stop (foot_of n s)) s).threads n in
-    let here : is_some (place_of n u) ≡ true = grind arith in grind (arith, nat_tests, set_place_is n n (Place.Held w) u)
+    let here : is_some (place_of n u) ≡ true = grind arith in
+    let now : is_some (place_of n (arrive n u)) ≡ true = ap (λ (o : Option Place). is_some o) (arrived_place n n u) ∙ here in
+    grind (arith, nat_tests, set_place_is n n (Place.Held w) (arrive n u))
 
 module _ (s t : State) (l : Label) (b : Core) (m : Mark) (n y : ℕ) where
   delivered_spends : (ch : Choice) → is_waiter y n b ≡ false → (o : Option PickedEvent) → picked_event true (task_of n b) y (chosen n ch b) b ≡ o →
@@ -183,7 +191,8 @@ unfolding take_holds
 holds_past n m w s other on =
     let u = stopped (foot_of n s) s in
     let still = moved_past (resumes_only m) (place_of m s) (place_of m u) (λ e. absurd (cc)) (stopped_shifted resumes_only (λ k. refl) (foot_of n s) s m) on in
-    grind (arith, nat_tests, set_place_is m n (Place.Held w) u)
+    let now : is_past (place_of m (arrive n u)) ≡ true = ap (λ (o : Option Place). is_past o) (arrived_place m n u) ∙ still in
+    grind (arith, nat_tests, set_place_is m n (Place.Held w) (arrive n u))
 
 -- ---- Starts
 
@@ -279,7 +288,7 @@ module _ (s t : State) (l : Label) (b : Core) (m : Mark) (n : ℕ) (live : t.tur
       (h.join ∙ is))
 
   holds_event : (v : Core) → event_of (Subtask.Guest k) (take_holds n Why.Start v) ≡ event_of (Subtask.Guest k) v
-  unfolding take_holds set_place on_thread
+  unfolding take_holds set_place on_thread arrive
   holds_event v = ap (λ (r : Records Call). option_and_then (λ (c : Call). c.event) (get r k)) (shifted_calls (placing_shifted (Stop (foot_of n v)) v))
 
   holds_tells : (w : Option ℕ) → ((x : ℕ) → is_waiter x n b ≡ false) → may_tell_starting k w b ≡ true → StartTells k b (start_holds n w b)

@@ -1,5 +1,7 @@
 -- What calls tell of their ends along the primitives of a step, and the results that are there for main.
+use Rattle.machine_data.specs.declared.scenario.Version.{Version}
 use Rattle.laws_states.proofs.Primitives.{add_call, add_group, add_set, add_thread, add_work, after_change, after_insert, after_remove, after_primitive, Allowed, along, ap, arith, Bool, by_number, Call, call_made, CallEnd, Caller, calls_begin, CallsGo, CallsHold, change, codes_at, codes_in, CodesAt, Core, count_work, end_of, EndCall, ended_as, EndsToldAsRecorded, event_of, false, free_handle, free_thread_handle, fresh, get, get-change, get-empty, get-insert, get-remove, give_handle, give_result, give_thread_handle, GiveResult, Goal, goal_of, has_ended, if◌then◌else◌, inl, inr, is_direct, is_for_main, is_guest_call, is_some, Label, le_trans, made_threads_primitive, MakeCall, MayEnd, MayRemoveCall, MayTell, nat_tests, next_thread, None, not, of_base, on_call, on_instance, on_thread, on_work, Op, opening_holds, Option, option_map, poll_pends, push_high, Reached, reached_keeps, refl, remove_call, remove_group, remove_set, remove_thread, remove_work, RemoveCall, SaysEnd, Scene, scene_as, set_backpressure, set_cancel_delivered, set_cancelled, set_course, set_do_not_enter, set_do_not_suspend, set_end, set_event, set_exited, set_op_progress, set_join, set_task_event, set_phase, set_position, set_register, set_result, set_saved_callee, set_saved_own, set_script, set_stage, set_started, set_starting_published, set_subtask_handle, set_thread_handle, set_trapped, set_uninteresting, set_memory_cell, SetCallEvent, Setting, Some, some_none, State, Status, status_of_end, step_goes, step_walks, Subtask, sym, take_result, TakeResult, true, undelivered_end, WalkedAs, with_handle, with_thread_handle, Primitive, primitive_goes, work_queued, ℕ, ⊎_elim, ◌&&◌, ◌∙◌, ◌≡◌, ◌≤◌, ◌⊎◌}
+unfoldable use Rattle.machine_data.specs.Write.{arrive, set_cancel_asked}
 
 -- ---- What a call tells
 
@@ -58,7 +60,7 @@ module _ (a : Scene) where
   telling_changed j f s k own = after_change (CallTells s k) s.calls j k (λ o. Same refl) f (λ c is e. rw e (own c))
 
   pub telling_came : (w : Primitive) (s : Core) → Allowed a w s → (k : ℕ) → TellingCame a s k (telling_of k s) (telling_of k (after_primitive w s))
-  unfolding add_call add_group add_set add_thread add_work count_work free_handle free_thread_handle give_handle give_result give_thread_handle on_call on_instance on_thread on_work push_high remove_call remove_group remove_set remove_thread remove_work set_backpressure set_cancel_delivered set_cancelled set_course set_do_not_enter set_do_not_suspend set_end set_event set_exited set_op_progress set_join set_task_event set_phase set_position set_register set_result set_saved_callee set_saved_own set_script set_stage set_started set_starting_published set_subtask_handle set_thread_handle set_trapped set_uninteresting set_memory_cell take_result call_made with_handle with_thread_handle work_queued poll_pends
+  unfolding arrive set_cancel_asked add_call add_group add_set add_thread add_work count_work free_handle free_thread_handle give_handle give_result give_thread_handle on_call on_instance on_thread on_work push_high remove_call remove_group remove_set remove_thread remove_work set_backpressure set_cancel_delivered set_cancelled set_course set_do_not_enter set_do_not_suspend set_end set_event set_exited set_op_progress set_join set_task_event set_phase set_position set_register set_result set_saved_callee set_saved_own set_script set_stage set_started set_starting_published set_subtask_handle set_thread_handle set_trapped set_uninteresting set_memory_cell take_result call_made with_handle with_thread_handle work_queued poll_pends
   telling_came (MakeCall f e x g group words) s ok k =
       after_insert (CallTells s k) s.calls _ k (λ o. Same refl) _ (λ at. Made f g at ok.1.1.1.1.0 refl)
   telling_came (RemoveCall j) s ok k = after_remove (CallTells s k) s.calls j k (λ o. Same refl) (λ at. Gone refl (rw at ok))
@@ -70,7 +72,7 @@ module _ (a : Scene) where
 
 result_came : (a : Scene) (w : Primitive) (s : Core) → Allowed a w s → (k : ℕ) → is_some (get (after_primitive w s).results k) ≡ true →
     (is_some (get s.results k) ≡ true) ⊎ (SaysEnd a k Status.Returned × (goal_of k s ≡ Goal.Main))
-unfolding add_call add_group add_set add_thread add_work count_work free_handle free_thread_handle give_handle give_result give_thread_handle on_call on_instance on_thread on_work push_high remove_call remove_group remove_set remove_thread remove_work set_backpressure set_cancel_delivered set_cancelled set_course set_do_not_enter set_do_not_suspend set_end set_event set_exited set_op_progress set_join set_task_event set_phase set_position set_register set_result set_saved_callee set_saved_own set_script set_stage set_started set_starting_published set_subtask_handle set_thread_handle set_trapped set_uninteresting set_memory_cell take_result call_made with_handle with_thread_handle work_queued poll_pends
+unfolding arrive set_cancel_asked add_call add_group add_set add_thread add_work count_work free_handle free_thread_handle give_handle give_result give_thread_handle on_call on_instance on_thread on_work push_high remove_call remove_group remove_set remove_thread remove_work set_backpressure set_cancel_delivered set_cancelled set_course set_do_not_enter set_do_not_suspend set_end set_event set_exited set_op_progress set_join set_task_event set_phase set_position set_register set_result set_saved_callee set_saved_own set_script set_stage set_started set_starting_published set_subtask_handle set_thread_handle set_trapped set_uninteresting set_memory_cell take_result call_made with_handle with_thread_handle work_queued poll_pends
 result_came a (GiveResult j v) s ok k h =
     by_number j k _ (λ e. inr (rw (← e) ok)) (λ e. inl (grind (arith, nat_tests, get-insert, e)))
 result_came a (TakeResult j) s ok k h = inl (grind (arith, nat_tests, get-remove))
@@ -209,9 +211,9 @@ ends_go {ops = ops} {x = x} {s = s} {l = l} given p q w =
     (primitive_goes a codes c.0 v u ok h.0, primitive_ends a v u ok h.1 (λ k there. grind (arith, h.0.numbered.calls k)) h.0.counted))
     (c.1, first) w.walk
 
-pub opening_ends_told : (instances handle_limit capacity : ℕ) → EndsTold (fresh instances handle_limit capacity)
+pub opening_ends_told : (rules : Version) (instances handle_limit capacity : ℕ) → EndsTold (fresh rules instances handle_limit capacity)
 unfolding fresh
-opening_ends_told instances handle_limit capacity = record {
+opening_ends_told rules instances handle_limit capacity = record {
   goals = λ k r at. some_none (sym at ∙ ap (option_map telling) (get-empty k));
   events = λ k e r at tells. some_none (sym at ∙ ap (option_map telling) (get-empty k));
   results = λ k there. absurd (grind (arith, get-empty));
@@ -222,7 +224,7 @@ opening_ends_told instances handle_limit capacity = record {
 pub reached_ends_told : {x : Setting} {s : State} → Reached x s → EndsTold s.core
 reached_ends_told {x = x} r = (reached_keeps r (λ s. CallsHold x.component s.core × EndsTold s.core)
     (λ s l t step h. ((step_goes x s l t r.scripts h.0 step).0, (ends_go (codes_at x s r.scripts) h.0 h.1 (step_walks x s l t step)).1.told))
-    (opening_holds x.component r.instances r.handle_limit r.capacity, opening_ends_told r.instances r.handle_limit r.capacity)).1
+    (opening_holds x.component r.version r.instances r.handle_limit r.capacity, opening_ends_told r.version r.instances r.handle_limit r.capacity)).1
 
 -- what an event tells is recorded
 pub recorded : (s : Core) → EndsTold s → (k : ℕ) (e : Status) → undelivered_end (event_of (Subtask.Guest k) s) ≡ Some e → IsOfEnd e

@@ -1,6 +1,7 @@
 -- What one primitive does to the record of a call, and to that of a thread.
 use Rattle.laws_states.proofs.Rules.{add_call, add_group, add_set, add_thread, add_work, Advance, after_primitive, Allowed, ap, Call, call_made, Callee, CallEnd, Caller, CanCome, change, change-change_same, Core, count_work, EndCall, ExportKind, false, free_handle, free_thread_handle, get, get-insert_same, give_handle, give_result, give_thread_handle, Goal, op_progress_of, OpProgress, inl, inr, is_deletable, is_some, Join, le_refl, MakeCall, MakeThread, MayAdvance, MayCome, MayDeliver, MayEnd, MayJoin, MayMake, MayMakeCall, MayOwe, MayRestart, MayStart, NameCall, new_call, next_thread, None, on_call, on_instance, on_thread, on_work, Option, option_map, TaskEvent, Place, Places, Placing, placing_shifted, poll_pends, push_high, refl, remove_call, remove_group, remove_set, remove_thread, remove_work, RemoveCall, RemoveThread, Restart, Scene, Script, set_backpressure, set_cancel_delivered, set_cancelled, set_course, set_do_not_enter, set_do_not_suspend, set_end, set_event, set_exited, set_op_progress, set_join, set_task_event, set_phase, set_position, set_register, set_result, set_saved_callee, set_saved_own, set_script, set_stage, set_started, set_starting_published, set_subtask_handle, set_thread_handle, set_trapped, set_uninteresting, set_memory_cell, SetCallJoin, SetOpProgress, Some, subst, Subtask, sym, take_result, TakeHost, TakePush, Thread, true, unplaced, with_handle, with_thread_handle, Withdraw, Primitive, work_queued, ℕ, ◌≡◌, ◌≤◌, ◌⊎◌}
 use Rattle.laws_states.proofs.{EachLemmas.after_change, EachLemmas.after_insert, EachLemmas.after_remove, SceneLemmas.popped_threads}
+unfoldable use Rattle.machine_data.specs.Write.{arrive, set_cancel_asked}
 
 at_most : {x y : ℕ} → x ≡ y → x ≤ y
 at_most {x = x} e = subst (λ (z : ℕ). x ≤ z) e (le_refl x)
@@ -50,7 +51,7 @@ module _ {a : Scene} where
       after_change (CallCame a w s t k) s.calls j k call_stays f (λ c is e. Grown c (f c) refl refl (rw e (grows c)))
 
   pub call_came : (w : Primitive) (s : Core) → Allowed a w s → (k : ℕ) → CallAfter a w s k
-  unfolding add_call add_group add_set add_thread add_work count_work free_handle free_thread_handle give_handle give_result give_thread_handle on_call on_instance on_thread on_work push_high remove_call remove_group remove_set remove_thread remove_work set_backpressure set_cancel_delivered set_cancelled set_course set_do_not_enter set_do_not_suspend set_end set_event set_exited set_op_progress set_join set_task_event set_phase set_position set_register set_result set_saved_callee set_saved_own set_script set_stage set_started set_starting_published set_subtask_handle set_thread_handle set_trapped set_uninteresting set_memory_cell take_result call_made with_handle with_thread_handle work_queued poll_pends
+  unfolding arrive set_cancel_asked add_call add_group add_set add_thread add_work count_work free_handle free_thread_handle give_handle give_result give_thread_handle on_call on_instance on_thread on_work push_high remove_call remove_group remove_set remove_thread remove_work set_backpressure set_cancel_delivered set_cancelled set_course set_do_not_enter set_do_not_suspend set_end set_event set_exited set_op_progress set_join set_task_event set_phase set_position set_register set_result set_saved_callee set_saved_own set_script set_stage set_started set_starting_published set_subtask_handle set_thread_handle set_trapped set_uninteresting set_memory_cell take_result call_made with_handle with_thread_handle work_queued poll_pends
   call_came (MakeCall f e x g group words) s ok k =
       after_insert (CallCame a _ s _ k) s.calls _ k call_stays _ (λ at. NewCall f e x g group at (at_most at) ok refl)
   call_came (RemoveCall j) s ok k = after_remove (CallCame a _ s _ k) s.calls j k call_stays (λ at. NoCall refl (inr (rw at ok.0)))
@@ -109,7 +110,7 @@ module _ {a : Scene} where
       IsSame r u refl refl (ap (λ x. x.call) h) (ap (λ x. x.explicit) h) (inl (ap (λ x. x.op_progress) h)) (inr (x, is)) (inl (ap (λ x. x.script) h, (ap (λ x. x.position) h, inl (ap (λ x. x.op_progress) h))))
 
   pub thread_came : (w : Primitive) (s : Core) → Allowed a w s → (n : ℕ) → ThreadAfter a w s n
-  unfolding add_call add_group add_set add_thread add_work count_work free_handle free_thread_handle give_handle give_result give_thread_handle on_call on_instance on_thread on_work push_high remove_call remove_group remove_set remove_thread remove_work set_backpressure set_cancel_delivered set_cancelled set_course set_do_not_enter set_do_not_suspend set_end set_event set_exited set_op_progress set_join set_task_event set_phase set_position set_register set_result set_saved_callee set_saved_own set_script set_stage set_started set_starting_published set_subtask_handle set_thread_handle set_trapped set_uninteresting set_memory_cell take_result call_made with_handle with_thread_handle work_queued poll_pends
+  unfolding arrive set_cancel_asked add_call add_group add_set add_thread add_work count_work free_handle free_thread_handle give_handle give_result give_thread_handle on_call on_instance on_thread on_work push_high remove_call remove_group remove_set remove_thread remove_work set_backpressure set_cancel_delivered set_cancelled set_course set_do_not_enter set_do_not_suspend set_end set_event set_exited set_op_progress set_join set_task_event set_phase set_position set_register set_result set_saved_callee set_saved_own set_script set_stage set_started set_starting_published set_subtask_handle set_thread_handle set_trapped set_uninteresting set_memory_cell take_result call_made with_handle with_thread_handle work_queued poll_pends
   thread_came (Places x) s ok n = thread_moved (Places x) x s _ n _ _ refl ((placing_shifted x s).threads n)
   thread_came (TakePush m i) s ok n = rw (popped_threads m s) (thread_stays (get s.threads n))
   thread_came (TakeHost m i) s ok n = rw (popped_threads m s) (thread_stays (get s.threads n))

@@ -125,6 +125,9 @@ module _ (a : Scene) (codes : Codes a) (h : CallsHold (component_of a) a.base) w
   -- ---- What holds right before a primitive
 
   module _ {s : Core} (q : CallsGo a s) where
+    pub kept_lifted : (k : ℕ) → k ≤ a.base.made.threads → is_async_lifted (kind_of k a.base) ≡ true → is_async_lifted (kind_of k s) ≡ true
+    kept_lifted k below c = grind (arith, q.calls k)
+
     pub kept_callback : (k : ℕ) → k ≤ a.base.made.threads → is_callback (kind_of k a.base) ≡ true → is_callback (kind_of k s) ≡ true
     kept_callback k below c = grind (arith, q.calls k)
 

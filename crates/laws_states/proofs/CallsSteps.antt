@@ -1,6 +1,14 @@
 -- Calls along the primitives of a step, along steps and along runs.
-use Rattle.laws_states.proofs.Rules.{[], after_primitive, Allowed, along, arith, base_at, Call, CallEnd, CallsRise, CodesInCallbacks, Component, component_of, Core, DeliveredByCallback, ends_activation, ExplicitNamesNoCall, false, fresh, get, get-empty, is_async_lifted, is_callback, kind_of, Label, LastPrimitives, LaterBy, le_refl, le_trans, List, MayDeliver, MayEnd, never_fewer, Op, op_of, opening, ops_of, Option, place_of, Queues, Reached, refl, Rises, Run, runner_at, RunsRise, SameThread, Scene, scene_as, script_of, Setting, Some, State, Step, step_walks, StepsRise, subst, sym, SyncEndsLast, SyncNeverCancelled, task_of, Thread, ThreadNumbered, true, Turn, WalkedAs, Primitive, ℕ, ◌∙◌, ◌∷◌, ◌≡◌, ◌≤◌}
-use Rattle.laws_states.proofs.{Basics.some_none, Basics.too_high, CallsCame.CallAfter, CallsCame.Grown, CallsCame.NewCall, CallsCame.NoCall, CallsCame.ThreadAfter, CallsCame.call_came, CallsCame.thread_came, CallsLaw.CallsGo, CallsLaw.CallsHold, CallsLaw.Codes, CallsLaw.Goes, CallsLaw.GoneOr, CallsLaw.KindHolds, CallsLaw.base_task, CallsLaw.delivered_in, CallsLaw.goes_after, CallsLaw.goes_of, CallsLaw.goes_same, CallsLaw.kept_callback, CallsLaw.kind_kept, CallsLaw.later_after, CallsLaw.later_none, CallsLaw.later_same, CallsLaw.place_delivers, CallsLaw.ready_delivered, CallsLaw.rises_after, CallsLaw.rises_same, CameLemmas.came_primitive, CountLemmas.made_threads_primitive, SceneLemmas.base_is}
+use Rattle.machine_data.specs.declared.scenario.Version.{Version}
+use Rattle.laws_states.proofs.Rules.{[], after_primitive, Allowed, along, arith, base_at, Call, CallEnd, CallsRise, CodesInCallbacks, Component, component_of, Core, DeliveredByCallback, ends_activation, ExplicitNamesNoCall, false, fresh, get, get-empty, is_async_lifted, is_callback, kind_of, Label, LastPrimitives, LaterBy, le_refl, le_trans, List, MayDeliver, MayEnd, never_fewer, Op, op_of, opening, ops_of, Option, place_of, Queues, Reached, refl, Rises, Run, runner_at, RunsRise, SameThread, Scene, scene_as, script_of, Setting, Some, State, Step, step_walks, StepsRise, subst, sym, SyncEndsLast, SyncNeverCancelled, task_of, Thread, ThreadNumbered, true, Turn, WalkedAs, Primitive, ℕ, ◌∙◌, ◌∷◌, ◌≡◌, ◌≤◌, inl, inr}
+use Rattle.laws_states.proofs.{Basics.some_none, Basics.too_high, CallsCame.CallAfter, CallsCame.Grown, CallsCame.NewCall, CallsCame.NoCall, CallsCame.ThreadAfter, CallsCame.call_came, CallsCame.thread_came, CallsLaw.CallsGo, CallsLaw.CallsHold, CallsLaw.Codes, CallsLaw.Goes, CallsLaw.GoneOr, CallsLaw.KindHolds, CallsLaw.base_task, CallsLaw.delivered_in, CallsLaw.goes_after, CallsLaw.goes_of, CallsLaw.kept_lifted, CallsLaw.goes_same, CallsLaw.kept_callback, CallsLaw.kind_kept, CallsLaw.later_after, CallsLaw.later_none, CallsLaw.later_same, CallsLaw.place_delivers, CallsLaw.ready_delivered, CallsLaw.rises_after, CallsLaw.rises_same, CameLemmas.came_primitive, CountLemmas.made_threads_primitive, SceneLemmas.base_is}
+use Rattle.machine_rules.proofs.Machine.{Delivery, Why}
+use Rattle.machine_rules.specs.Allowed.{WasReady}
+use Rattle.machine_rules.specs.OpParts.{is_wait}
+use Rattle.machine_rules.specs.Scenes.{op_in}
+use Rattle.machine_data.specs.Moves.{waits_cancellable}
+use Rattle.std.proofs.lemmas.Bool.{and_parts}
+use Rattle.std.specs.Prelude.{◌⊎◌}
 
 module _ (a : Scene) (codes : Codes a) (h : CallsHold (component_of a) a.base) where
   -- ---- One primitive
@@ -34,11 +42,19 @@ module _ (a : Scene) (codes : Codes a) (h : CallsHold (component_of a) a.base) w
     gone_kept k below gone = let i : ThreadAfter a w s k = thread_came w s ok k in grind arith
 
     delivered_lifted : (k : ℕ) (c : Call) → get s.calls k ≡ Some c → MayDeliver a k → is_async_lifted c.kind ≡ true
-    delivered_lifted k c at m =
-        let r = ready_delivered a codes h m.0 _ m.1.1.1.0.1 refl in
-        let k = task_of m.0 a.base in
-        let y : is_callback (kind_of k s) ≡ true = kept_callback a codes h q k (base_task a codes h m.0) r.1 in
-        grind arith
+    delivered_lifted k c at m = by m.1.1.1.0
+      where
+        by : ((d : Delivery) × WasReady a m.0 (Why.Delivery d)) ⊎ ((is_wait (op_in a m.0) ≡ true) × (waits_cancellable k a.base ≡ true)) → is_async_lifted c.kind ≡ true
+        by (inl ready) =
+            let r = ready_delivered a codes h m.0 _ ready.1 refl in
+            let y : is_callback (kind_of (task_of m.0 a.base) s) ≡ true = kept_callback a codes h q (task_of m.0 a.base) (base_task a codes h m.0) r.1 in
+            let is = m.1.1.0 in
+            grind arith
+        by (inr waits) =
+            let lifted = subst (λ (j : ℕ). is_async_lifted (kind_of j a.base) ≡ true) m.1.1.0 (and_parts _ _ waits.1).1 in
+            let y : is_async_lifted (kind_of (task_of m.0 a.base) s) ≡ true = kept_lifted a codes h q (task_of m.0 a.base) (base_task a codes h m.0) lifted in
+            let is = m.1.1.0 in
+            grind arith
 
     end_gone : (k : ℕ) (c : Call) (e : CallEnd) → get s.calls k ≡ Some c → MayEnd a k e s → is_async_lifted c.kind ≡ false → GoneOr a s k
     end_gone k c e at m sync = grind (arith, q.kinds k)
@@ -156,9 +172,9 @@ step_goes x s l t codes p step = walked_goes x s l t (codes_at x s codes) p (ste
 
 -- ---- Runs
 
-pub opening_holds : (c : Component) (instances handle_limit capacity : ℕ) → CallsHold c (fresh instances handle_limit capacity)
+pub opening_holds : (c : Component) (rules : Version) (instances handle_limit capacity : ℕ) → CallsHold c (fresh rules instances handle_limit capacity)
 unfolding fresh
-opening_holds c instances handle_limit capacity = record {
+opening_holds c rules instances handle_limit capacity = record {
   numbered = record { threads = λ n t e. some_none (sym e ∙ get-empty n); calls = λ k x e. some_none (sym e ∙ get-empty k) };
   kinds = λ k x e. some_none (sym e ∙ get-empty k);
   deliveries = λ n t e. some_none (sym e ∙ get-empty n);
@@ -176,8 +192,8 @@ run_goes x s codes p (l ∷ ls) t r =
 
 pub reached_holds : {x : Setting} {s : State} → Reached x s → CallsHold x.component s.core
 reached_holds {x = x} {s = s} r =
-    let first = opening_holds x.component r.instances r.handle_limit r.capacity in
-    (run_goes x (opening r.instances r.handle_limit r.capacity r.main) r.scripts first r.labels s r.run).0
+    let first = opening_holds x.component r.version r.instances r.handle_limit r.capacity in
+    (run_goes x (opening r.version r.instances r.handle_limit r.capacity r.main) r.scripts first r.labels s r.run).0
 
 pub steps_rise : StepsRise
 unfolding StepsRise

@@ -2,6 +2,7 @@
 use Rattle.laws_states.proofs.Primitives.{add_call, add_group, add_set, add_thread, add_work, after_primitive, Allowed, ap, arith, by_number, call_made, cancelled_by, CancelsNamed, CancelsWatched, Core, count_work, free_handle, free_thread_handle, get-change, get-insert, get-remove, give_handle, give_result, give_thread_handle, op_progress_of, OpProgress, inl, inr, instance_of, is_joined, is_some, join_of, MakeCall, MayCome, NamesKnown, nat_tests, on_call, on_instance, on_thread, on_work, op_came, poll_pends, push_high, Queues, QueueWork, refl, remove_call, remove_group, remove_set, remove_thread, remove_work, RemoveCall, RemoveWork, Scene, set_backpressure, set_cancel_delivered, set_cancelled, set_course, set_do_not_enter, set_do_not_suspend, set_end, set_event, set_exited, set_op_progress, set_join, set_task_event, set_phase, set_position, set_register, set_result, set_saved_callee, set_saved_own, set_script, set_stage, set_started, set_starting_published, set_subtask_handle, set_thread_handle, set_trapped, set_uninteresting, set_memory_cell, Some, Subtask, subtask_at, subtask_handle, take_result, true, Turn, UnnameCall, UnnameWork, with_handle, with_thread_handle, Primitive, work_queued, WorksKnown, ℕ, ⊎_elim, ◌≡◌, ◌⊎◌}
 use Rattle.laws_states.proofs.{KnownWorks.WorksSaid, KnownWorks.unnamed_removed, MemberLemmas.handle_is, NamedCalls.NamesHold, NamedCalls.deletable_unnamed}
 use Rattle.machine_rules.specs.Allowed.{Leaves}
+unfoldable use Rattle.machine_data.specs.Write.{arrive, set_cancel_asked}
 
 -- entries say nothing of handles
 pub queued_handle : (q : Queues) (s : Core) (sub : Subtask) → subtask_handle sub (record s { queues = q }) ≡ subtask_handle sub s
@@ -25,7 +26,7 @@ Keeps a sub s = (is_joined (join_of sub s) ≡ true) ⊎ (a.next ≡ Turn.Main)
 
 handle_primitive : (a : Scene) → KnownCancels a → (w : Primitive) (s : Core) → Allowed a w s → NamesHold s → WorksSaid s → (sub : Subtask) → Keeps a sub s →
     is_some (subtask_handle sub s) ≡ true → is_some (subtask_handle sub (after_primitive w s)) ≡ true
-unfolding add_call add_group add_set add_thread add_work count_work free_handle free_thread_handle give_handle give_result give_thread_handle on_call on_instance on_thread on_work push_high remove_call remove_group remove_set remove_thread remove_work set_backpressure set_cancel_delivered set_cancelled set_course set_do_not_enter set_do_not_suspend set_end set_event set_exited set_op_progress set_join set_task_event set_phase set_position set_register set_result set_saved_callee set_saved_own set_script set_stage set_started set_starting_published set_subtask_handle set_thread_handle set_trapped set_uninteresting set_memory_cell take_result call_made with_handle with_thread_handle work_queued poll_pends
+unfolding arrive set_cancel_asked add_call add_group add_set add_thread add_work count_work free_handle free_thread_handle give_handle give_result give_thread_handle on_call on_instance on_thread on_work push_high remove_call remove_group remove_set remove_thread remove_work set_backpressure set_cancel_delivered set_cancelled set_course set_do_not_enter set_do_not_suspend set_end set_event set_exited set_op_progress set_join set_task_event set_phase set_position set_register set_result set_saved_callee set_saved_own set_script set_stage set_started set_starting_published set_subtask_handle set_thread_handle set_trapped set_uninteresting set_memory_cell take_result call_made with_handle with_thread_handle work_queued poll_pends
 handle_primitive a known (UnnameCall i h k) s ok calls works (Subtask.Guest q) keeps is =
     by_number q k _ (λ e. absurd (let free = ok.1.1.1.1.0 in let on = ok.1.1.1.1.1 in grind arith)) (λ other. grind (arith, nat_tests, get-change))
 handle_primitive a known (UnnameWork i h k) s ok calls works (Subtask.Host q) keeps is =

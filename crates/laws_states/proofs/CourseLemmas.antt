@@ -1,5 +1,6 @@
 -- Which steps make host works, and which change what a work is still to do.
 use Rattle.laws_states.proofs.Primitives.{add_call, add_group, add_set, add_thread, add_work, AddGroup, after_primitive, Allowed, along, ap, arith, base_at, call_made, CallOp, calls_host, CallsHost, Core, count_work, CoursesStay, EndWork, FinishWork, free_handle, free_thread_handle, get, get-change, get-insert, get-remove, give_handle, give_result, give_thread_handle, op_progress_of, OpProgress, inl, inr, insert, is_some, Label, LaterBy, le_refl, le_trans, MadeCounts, made_works_primitive, MakesWork, MayQueue, nat_tests, of_base, on_call, on_instance, on_thread, on_work, Op, op_in, Option, Pend, poll_pends, push_high, queues_work, QueueWork, Records, refl, remove_call, remove_group, remove_set, remove_thread, remove_work, SameCourse, Scene, scene_as, set_backpressure, set_cancel_delivered, set_cancelled, set_course, set_do_not_enter, set_do_not_suspend, set_end, set_event, set_exited, set_op_progress, set_join, set_task_event, set_phase, set_position, set_register, set_result, set_saved_callee, set_saved_own, set_script, set_stage, set_started, set_starting_published, set_subtask_handle, set_thread_handle, set_trapped, set_uninteresting, set_memory_cell, Setting, Spawns, State, subst, Subtask, take_result, true, Turn, with_handle, with_thread_handle, Primitive, Work, work_queued, WorkCaller, WorksAreCalled, ℕ, ⊎_elim, ◌+◌, ◌∙◌, ◌≡◌, ◌≤◌, ◌⊎◌}
+unfoldable use Rattle.machine_data.specs.Write.{arrive, set_cancel_asked}
 
 -- ---- What a work is still to do
 
@@ -14,7 +15,7 @@ stays_same b = record { more = le_refl _; same = λ i below. grind arith }
 module _ (a : Scene) (quiet : (n : ℕ) → a.turn ≡ Turn.Futures n → ⊥) (b : Core) where
   course_primitive : (w : Primitive) (s : Core) → Allowed a w s → (i : ℕ) → i ≤ s.made.works → LaterBy SameCourse (get b.works i) (get s.works i) →
       LaterBy SameCourse (get b.works i) (get (after_primitive w s).works i)
-  unfolding add_call add_group add_set add_thread add_work call_made count_work free_handle free_thread_handle give_handle give_result give_thread_handle on_call on_instance on_thread on_work poll_pends push_high remove_call remove_group remove_set remove_thread remove_work set_backpressure set_cancel_delivered set_cancelled set_course set_do_not_enter set_do_not_suspend set_end set_event set_exited set_op_progress set_join set_task_event set_phase set_position set_register set_result set_saved_callee set_saved_own set_script set_stage set_started set_starting_published set_subtask_handle set_thread_handle set_trapped set_uninteresting set_memory_cell take_result with_handle with_thread_handle work_queued
+  unfolding arrive set_cancel_asked add_call add_group add_set add_thread add_work call_made count_work free_handle free_thread_handle give_handle give_result give_thread_handle on_call on_instance on_thread on_work poll_pends push_high remove_call remove_group remove_set remove_thread remove_work set_backpressure set_cancel_delivered set_cancelled set_course set_do_not_enter set_do_not_suspend set_end set_event set_exited set_op_progress set_join set_task_event set_phase set_position set_register set_result set_saved_callee set_saved_own set_script set_stage set_started set_starting_published set_subtask_handle set_thread_handle set_trapped set_uninteresting set_memory_cell take_result with_handle with_thread_handle work_queued
   course_primitive AddGroup s ok i below q = q
   course_primitive (Pend j host) s ok i below q = absurd (quiet ok.0.0 ok.0.1.0)
   course_primitive (EndWork j c) s ok i below q = absurd (quiet ok.0.0.0 ok.0.0.1.0)
@@ -62,7 +63,7 @@ module _ (a : Scene) (b : Core) (base : a.base.made ≡ b.made) where
 
   each_primitive : (w : Primitive) (s : Core) → Allowed a w s → ((i : ℕ) → is_some (get s.works i) ≡ true → (i ≤ b.made.works) ⊎ ((i ≡ b.made.works + 1) × Makes a)) →
       (i : ℕ) → is_some (get (after_primitive w s).works i) ≡ true → (i ≤ b.made.works) ⊎ ((i ≡ b.made.works + 1) × Makes a)
-  unfolding add_call add_group add_set add_thread add_work call_made count_work free_handle free_thread_handle give_handle give_result give_thread_handle on_call on_instance on_thread on_work poll_pends push_high remove_call remove_group remove_set remove_thread remove_work set_backpressure set_cancel_delivered set_cancelled set_course set_do_not_enter set_do_not_suspend set_end set_event set_exited set_op_progress set_join set_task_event set_phase set_position set_register set_result set_saved_callee set_saved_own set_script set_stage set_started set_starting_published set_subtask_handle set_thread_handle set_trapped set_uninteresting set_memory_cell take_result with_handle with_thread_handle work_queued
+  unfolding arrive set_cancel_asked add_call add_group add_set add_thread add_work call_made count_work free_handle free_thread_handle give_handle give_result give_thread_handle on_call on_instance on_thread on_work poll_pends push_high remove_call remove_group remove_set remove_thread remove_work set_backpressure set_cancel_delivered set_cancelled set_course set_do_not_enter set_do_not_suspend set_end set_event set_exited set_op_progress set_join set_task_event set_phase set_position set_register set_result set_saved_callee set_saved_own set_script set_stage set_started set_starting_published set_subtask_handle set_thread_handle set_trapped set_uninteresting set_memory_cell take_result with_handle with_thread_handle work_queued
   each_primitive AddGroup s ok q i there = q i there
   each_primitive (QueueWork f host group) s ok q i there =
       let made : s.made.works ≡ b.made.works = ap (λ (m : MadeCounts). m.works) (ok.0 ∙ base) in

@@ -2,6 +2,7 @@
 -- their end and are of no async call.
 use Rattle.laws_states.proofs.Primitives.{add_call, add_group, add_set, add_thread, add_work, after_primitive, Allowed, ap, arith, by_number, call_made, Core, count_work, EndWork, false, free_handle, free_thread_handle, get, get-change, get-insert, get-remove, give_handle, give_result, give_thread_handle, host_label, host_taken, op_progress_of, OpProgress, inl, inr, is_async_work, is_stage_ended, IsRunner, Label, le_trans, LoopLabel, made_works_primitive, Mark, MayRemoveWork, nat_tests, None, on_call, on_instance, on_thread, on_work, Option, poll_pends, push_high, QueueWork, refl, remove_call, remove_group, remove_set, remove_thread, remove_work, RemoveWork, Scene, set_backpressure, set_cancel_delivered, set_cancelled, set_course, set_do_not_enter, set_do_not_suspend, set_end, set_event, set_exited, set_op_progress, set_join, set_task_event, set_phase, set_position, set_register, set_result, set_saved_callee, set_saved_own, set_script, set_stage, set_started, set_starting_published, set_subtask_handle, set_thread_handle, set_trapped, set_uninteresting, set_memory_cell, Some, stage_of, Subtask, take_result, TakeHost, true, with_handle, with_thread_handle, Primitive, Work, work_caller_of, work_queued, ℕ, ⊎_elim, ◌∙◌, ◌≡◌, ◌≤◌, ◌⊎◌}
 use Rattle.laws_states.proofs.KnownWorks.{caller_stays, none_stays}
+unfoldable use Rattle.machine_data.specs.Write.{arrive, set_cancel_asked}
 
 shown_taken : (m : Mark) (i : ℕ) (w : Option ℕ) → host_taken (host_label m i w) ≡ Some i
 shown_taken m i None = refl
@@ -24,7 +25,7 @@ module _ (a : Scene)
   removed_come s ok q = ⊎_elim (λ far. inl (asked ok.0 i ok.1.0 far.0)) (λ e. q e.1.1.0) ok.1.1.1
 
   come_primitive : (w : Primitive) (s : Core) → Allowed a w s → Coming s → is_stage_ended (stage_of i (after_primitive w s)) ≡ true → HasCome
-  unfolding add_call add_group add_set add_thread add_work count_work free_handle free_thread_handle give_handle give_result give_thread_handle on_call on_instance on_thread on_work push_high remove_call remove_group remove_set remove_thread remove_work set_backpressure set_cancel_delivered set_cancelled set_course set_do_not_enter set_do_not_suspend set_end set_event set_exited set_op_progress set_join set_task_event set_phase set_position set_register set_result set_saved_callee set_saved_own set_script set_stage set_started set_starting_published set_subtask_handle set_thread_handle set_trapped set_uninteresting set_memory_cell take_result call_made with_handle with_thread_handle work_queued poll_pends
+  unfolding arrive set_cancel_asked add_call add_group add_set add_thread add_work count_work free_handle free_thread_handle give_handle give_result give_thread_handle on_call on_instance on_thread on_work push_high remove_call remove_group remove_set remove_thread remove_work set_backpressure set_cancel_delivered set_cancelled set_course set_do_not_enter set_do_not_suspend set_end set_event set_exited set_op_progress set_join set_task_event set_phase set_position set_register set_result set_saved_callee set_saved_own set_script set_stage set_started set_starting_published set_subtask_handle set_thread_handle set_trapped set_uninteresting set_memory_cell take_result call_made with_handle with_thread_handle work_queued poll_pends
   come_primitive (TakeHost m j) s ok q e = by_number i j _ (λ same. inr (inl (rw same (ap host_taken ok.1.1.0 ∙ shown_taken m j ok.1.0))))
       (λ other. q.ended (grind (arith, nat_tests, get-change, other, e)))
   come_primitive (EndWork j c) s ok q e = by_number i j _ (λ same. by (get s.works i) refl same)

@@ -1,9 +1,10 @@
 -- Where the end of a subtask is its event: along the primitives of a step.
 use Rattle.laws_states.proofs.Primitives.{add_call, add_group, add_set, add_thread, add_work, after_primitive, Allowed, ap, arith, by_number, call_came, call_made, CallAfter, CallEnd, CallsTold, Core, count_work, Doing, doing, EndCall, event_of, free_handle, free_thread_handle, get, get-change, get-insert, get-remove, give_handle, give_result, give_thread_handle, host_label, host_taken, inl, inr, is_told, le_trans, made_threads_primitive, Mark, nat_tests, None, on_call, on_instance, on_thread, on_work, Option, option_map, poll_pends, push_high, refl, remove_call, remove_group, remove_set, remove_thread, remove_work, SaysEnd, Scene, set_backpressure, set_cancel_delivered, set_cancelled, set_course, set_do_not_enter, set_do_not_suspend, set_end, set_event, set_exited, set_op_progress, set_join, set_task_event, set_phase, set_position, set_register, set_result, set_saved_callee, set_saved_own, set_script, set_stage, set_started, set_starting_published, set_subtask_handle, set_thread_handle, set_trapped, set_uninteresting, set_memory_cell, SetCallEvent, Some, Status, status_of_end, subst, Subtask, take_result, TakeHost, true, undelivered_end, with_handle, with_thread_handle, Primitive, Work, work_queued, WorksStand, WorksTold, ℕ, ⊎_elim, ◌≡◌, ◌≤◌, ◌⊎◌}
 use Rattle.laws_states.proofs.Works.{WorkHolds, WorksHold}
+unfoldable use Rattle.machine_data.specs.Write.{arrive, set_cancel_asked}
 
 pub calls_told_primitive : (a : Scene) (w : Primitive) (s : Core) → Allowed a w s → CallsTold s → CallsTold (after_primitive w s)
-unfolding add_call add_group add_set add_thread add_work count_work free_handle free_thread_handle give_handle give_result give_thread_handle on_call on_instance on_thread on_work push_high remove_call remove_group remove_set remove_thread remove_work set_backpressure set_cancel_delivered set_cancelled set_course set_do_not_enter set_do_not_suspend set_end set_event set_exited set_op_progress set_join set_task_event set_phase set_position set_register set_result set_saved_callee set_saved_own set_script set_stage set_started set_starting_published set_subtask_handle set_thread_handle set_trapped set_uninteresting set_memory_cell take_result call_made with_handle with_thread_handle work_queued poll_pends
+unfolding arrive set_cancel_asked add_call add_group add_set add_thread add_work count_work free_handle free_thread_handle give_handle give_result give_thread_handle on_call on_instance on_thread on_work push_high remove_call remove_group remove_set remove_thread remove_work set_backpressure set_cancel_delivered set_cancelled set_course set_do_not_enter set_do_not_suspend set_end set_event set_exited set_op_progress set_join set_task_event set_phase set_position set_register set_result set_saved_callee set_saved_own set_script set_stage set_started set_starting_published set_subtask_handle set_thread_handle set_trapped set_uninteresting set_memory_cell take_result call_made with_handle with_thread_handle work_queued poll_pends
 calls_told_primitive a (SetCallEvent j None) s ok q k e h = grind (arith, nat_tests, get-change, q k e)
 calls_told_primitive a (SetCallEvent j (Some Status.Starting)) s ok q k e h = grind (arith, nat_tests, get-change, q k e)
 calls_told_primitive a (SetCallEvent j (Some Status.Started)) s ok q k e h = grind (arith, nat_tests, get-change, q k e)
@@ -16,7 +17,7 @@ TellsEnd a k s = (y : CallEnd) × (SaysEnd a k (status_of_end y) × ((is_told k 
 
 pub ends_told_primitive : (a : Scene) (w : Primitive) (s : Core) → Allowed a w s → (k : ℕ) (e : Status) → undelivered_end (event_of (Subtask.Guest k) (after_primitive w s)) ≡ Some e →
     (undelivered_end (event_of (Subtask.Guest k) s) ≡ Some e) ⊎ TellsEnd a k s
-unfolding add_call add_group add_set add_thread add_work count_work free_handle free_thread_handle give_handle give_result give_thread_handle on_call on_instance on_thread on_work push_high remove_call remove_group remove_set remove_thread remove_work set_backpressure set_cancel_delivered set_cancelled set_course set_do_not_enter set_do_not_suspend set_end set_event set_exited set_op_progress set_join set_task_event set_phase set_position set_register set_result set_saved_callee set_saved_own set_script set_stage set_started set_starting_published set_subtask_handle set_thread_handle set_trapped set_uninteresting set_memory_cell take_result call_made with_handle with_thread_handle work_queued poll_pends
+unfolding arrive set_cancel_asked add_call add_group add_set add_thread add_work count_work free_handle free_thread_handle give_handle give_result give_thread_handle on_call on_instance on_thread on_work push_high remove_call remove_group remove_set remove_thread remove_work set_backpressure set_cancel_delivered set_cancelled set_course set_do_not_enter set_do_not_suspend set_end set_event set_exited set_op_progress set_join set_task_event set_phase set_position set_register set_result set_saved_callee set_saved_own set_script set_stage set_started set_starting_published set_subtask_handle set_thread_handle set_trapped set_uninteresting set_memory_cell take_result call_made with_handle with_thread_handle work_queued poll_pends
 ends_told_primitive a (SetCallEvent j None) s ok k e h = inl (grind (arith, nat_tests, get-change))
 ends_told_primitive a (SetCallEvent j (Some Status.Starting)) s ok k e h = inl (grind (arith, nat_tests, get-change))
 ends_told_primitive a (SetCallEvent j (Some Status.Started)) s ok k e h = inl (grind (arith, nat_tests, get-change))
@@ -48,7 +49,7 @@ taken_label a m j (Some n) is = ap host_taken is
 pub host_event_primitive : (a : Scene) (w : Primitive) (s : Core) → Allowed a w s → (i : ℕ) (e : Status) →
     undelivered_end (event_of (Subtask.Host i) (after_primitive w s)) ≡ Some e →
     (undelivered_end (event_of (Subtask.Host i) s) ≡ Some e) ⊎ (host_taken a.label ≡ Some i)
-unfolding add_call add_group add_set add_thread add_work count_work free_handle free_thread_handle give_handle give_result give_thread_handle on_call on_instance on_thread on_work push_high remove_call remove_group remove_set remove_thread remove_work set_backpressure set_cancel_delivered set_cancelled set_course set_do_not_enter set_do_not_suspend set_end set_event set_exited set_op_progress set_join set_task_event set_phase set_position set_register set_result set_saved_callee set_saved_own set_script set_stage set_started set_starting_published set_subtask_handle set_thread_handle set_trapped set_uninteresting set_memory_cell take_result call_made with_handle with_thread_handle work_queued poll_pends
+unfolding arrive set_cancel_asked add_call add_group add_set add_thread add_work count_work free_handle free_thread_handle give_handle give_result give_thread_handle on_call on_instance on_thread on_work push_high remove_call remove_group remove_set remove_thread remove_work set_backpressure set_cancel_delivered set_cancelled set_course set_do_not_enter set_do_not_suspend set_end set_event set_exited set_op_progress set_join set_task_event set_phase set_position set_register set_result set_saved_callee set_saved_own set_script set_stage set_started set_starting_published set_subtask_handle set_thread_handle set_trapped set_uninteresting set_memory_cell take_result call_made with_handle with_thread_handle work_queued poll_pends
 host_event_primitive a (TakeHost m j) s ok i e h = by_number i j _ (λ is. inr (rw is (taken_label a m j ok.1.0 ok.1.1.0))) (λ other. inl (grind (arith, nat_tests, get-change, other)))
 host_event_primitive a w s ok i e h = inl (grind (arith, nat_tests, get-change, get-insert, get-remove))
 

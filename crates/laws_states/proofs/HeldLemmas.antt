@@ -1,12 +1,13 @@
 -- No held thread is admitted, along the primitives of a step.
 use Rattle.laws_states.proofs.Primitives.{add_call, add_group, add_set, add_thread, add_work, admits, after_primitive, Allowed, arith, at_test, backpressure_of, call_came, call_instance, call_made, CallAfter, CallsThere, Came, came_primitive, Comes, Core, count_work, false, free_handle, free_thread_handle, get-change, give_handle, give_result, give_thread_handle, inl, inr, instance_of, is_explicit, kind_of, may_not_enter, MayMove, MayStand, Moved, nat_tests, no_thread_left, NoneAdmitted, NoneHeldIn, Numbered, on_call, on_instance, on_thread, on_work, Option, Place, place_of, poll_pends, push_high, refl, remove_call, remove_group, remove_set, remove_thread, remove_work, Scene, set_backpressure, set_cancel_delivered, set_cancelled, set_course, set_do_not_enter, set_do_not_suspend, set_end, set_event, set_exited, set_op_progress, set_join, set_task_event, set_phase, set_position, set_register, set_result, set_saved_callee, set_saved_own, set_script, set_stage, set_started, set_starting_published, set_subtask_handle, set_thread_handle, set_trapped, set_uninteresting, set_memory_cell, SetBackpressure, SetDoNotEnter, SetDoNotSuspend, SetMemoryCell, Shifts, Some, suc, take_result, task_of, thread_came, ThreadAfter, true, Turned, Turns, Why, with_handle, with_thread_handle, Primitive, work_queued, zero, ℕ, ◌≡◌, ◌⊎◌}
+unfoldable use Rattle.machine_data.specs.Write.{arrive, set_cancel_asked}
 
 -- the flags of the instance let no more in than before, or no thread of it is held that is admitted
 abbrev KeepsOut : Core → Core → ℕ → Type 0
 KeepsOut s t i = ((may_not_enter i s ≡ true → may_not_enter i t ≡ true) × (backpressure_of i t ≡ 0 → backpressure_of i s ≡ 0)) ⊎ NoneHeldIn i t
 
 flags_primitive : (a : Scene) (w : Primitive) (s : Core) → Allowed a w s → (i : ℕ) → KeepsOut s (after_primitive w s) i
-unfolding add_call add_group add_set add_thread add_work count_work free_handle free_thread_handle give_handle give_result give_thread_handle on_call on_instance on_thread on_work push_high remove_call remove_group remove_set remove_thread remove_work set_backpressure set_cancel_delivered set_cancelled set_course set_do_not_enter set_do_not_suspend set_end set_event set_exited set_op_progress set_join set_task_event set_phase set_position set_register set_result set_saved_callee set_saved_own set_script set_stage set_started set_starting_published set_subtask_handle set_thread_handle set_trapped set_uninteresting set_memory_cell take_result call_made with_handle with_thread_handle work_queued poll_pends
+unfolding arrive set_cancel_asked add_call add_group add_set add_thread add_work count_work free_handle free_thread_handle give_handle give_result give_thread_handle on_call on_instance on_thread on_work push_high remove_call remove_group remove_set remove_thread remove_work set_backpressure set_cancel_delivered set_cancelled set_course set_do_not_enter set_do_not_suspend set_end set_event set_exited set_op_progress set_join set_task_event set_phase set_position set_register set_result set_saved_callee set_saved_own set_script set_stage set_started set_starting_published set_subtask_handle set_thread_handle set_trapped set_uninteresting set_memory_cell take_result call_made with_handle with_thread_handle work_queued poll_pends
 flags_primitive a (SetDoNotEnter j true) s ok i = inl (grind (arith, nat_tests, get-change))
 flags_primitive a (SetDoNotEnter j false) s ok i =
     at_test i j (λ b. KeepsOut s (after_primitive (SetDoNotEnter j false) s) i) (λ e. inr (rw e ok.1)) (λ other. inl (grind (arith, nat_tests, get-change)))

@@ -1,6 +1,8 @@
 -- A subtask that is joined to a set is named in the set's instance: along the primitives of a step.
+use Rattle.machine_data.specs.declared.scenario.Version.{Version}
 use Rattle.laws_states.proofs.Primitives.{[], add_call, add_group, add_set, add_thread, add_work, after_change, after_primitive, Allowed, arith, Bool, by_number, Call, call_made, change, CloseSet, Core, count_work, false, filled_with, free_handle, free_thread_handle, fresh, get, get-change, get-empty, get-insert, get-remove, give_handle, give_result, give_thread_handle, giving, giving_kept, has_member, home_in, inl, inr, instance_of, is_joined, is_member, is_some, Join, join_of, JoinNamed, JoinsNamed, List, list_any, list_any-append, map, MayJoin, NameCall, Named, named_by, NameWork, nat_cmp, nat_tests, next_dead, next_handle, no_handles, None, numbers, on_call, on_instance, on_thread, on_work, OpenSet, poll_pends, push_high, Records, refl, remove_call, remove_group, remove_set, remove_thread, remove_work, Scene, Set, set_backpressure, set_cancel_delivered, set_cancelled, set_course, set_do_not_enter, set_do_not_suspend, set_end, set_event, set_exited, set_op_progress, set_join, set_task_event, set_phase, set_position, set_register, set_result, set_saved_callee, set_saved_own, set_script, set_stage, set_started, set_starting_published, set_subtask_handle, set_thread_handle, set_trapped, set_uninteresting, set_memory_cell, SetCallJoin, SetsNamed, SetWorkJoin, Some, subst, Subtask, subtask_at, subtask_in, NameTable, TableKept, take_result, taking, taking_kept, true, UnnameCall, UnnameWork, unsigned_tied, with_handle, with_thread_handle, Primitive, Work, work_queued, ℕ, ⊎_elim, ◌∷◌, ◌≡◌, ◌≤◌, ◌⊎◌}
 use Rattle.std.specs.FinMap.Entries.{find}
+unfoldable use Rattle.machine_data.specs.Write.{arrive, set_cancel_asked}
 
 -- ---- Tables
 
@@ -36,7 +38,7 @@ Joins a w s sub x = MayJoin a sub (Join.Set x) s × (((after_primitive w s).hand
 
 pub now_joined : (a : Scene) (w : Primitive) (s : Core) → Allowed a w s → (sub : Subtask) (x : ℕ) → join_of sub (after_primitive w s) ≡ Join.Set x →
     (join_of sub s ≡ Join.Set x) ⊎ Joins a w s sub x
-unfolding on_thread add_group add_set add_work count_work free_handle free_thread_handle give_handle give_result give_thread_handle on_call on_instance on_work push_high remove_call remove_group remove_set remove_work remove_thread set_backpressure set_cancel_delivered set_cancelled set_course set_do_not_enter set_do_not_suspend set_end set_event set_exited set_op_progress set_join set_task_event set_phase set_position set_register set_result set_saved_callee set_saved_own set_script set_stage set_started set_starting_published set_subtask_handle set_thread_handle set_trapped set_uninteresting set_memory_cell take_result call_made add_call add_thread with_handle with_thread_handle work_queued poll_pends
+unfolding arrive set_cancel_asked on_thread add_group add_set add_work count_work free_handle free_thread_handle give_handle give_result give_thread_handle on_call on_instance on_work push_high remove_call remove_group remove_set remove_work remove_thread set_backpressure set_cancel_delivered set_cancelled set_course set_do_not_enter set_do_not_suspend set_end set_event set_exited set_op_progress set_join set_task_event set_phase set_position set_register set_result set_saved_callee set_saved_own set_script set_stage set_started set_starting_published set_subtask_handle set_thread_handle set_trapped set_uninteresting set_memory_cell take_result call_made add_call add_thread with_handle with_thread_handle work_queued poll_pends
 now_joined a (SetCallJoin n j) s ok (Subtask.Guest k) x h = by_number n k _
     (λ e. let to : j ≡ Join.Set x = grind (arith, nat_tests, get-change) in inr (rw to at (rw e at ok), (refl, refl)))
     (λ e. inl (grind (arith, nat_tests, get-change, e)))
@@ -81,7 +83,7 @@ module _ (a : Scene) (s : Core) (q : JoinsNamed s) where
       freed_kept j g (Named.Subtask sub) (grind arith) (λ other x to is. let same : sub ≡ other = cc in absurd (cc))
 
   handles_primitive : (w : Primitive) → Allowed a w s → HandlesKept s (after_primitive w s).handles
-  unfolding on_thread add_group add_set add_work count_work free_handle free_thread_handle give_handle give_result give_thread_handle on_call on_instance on_work push_high remove_call remove_group remove_set remove_work remove_thread set_backpressure set_cancel_delivered set_cancelled set_course set_do_not_enter set_do_not_suspend set_end set_event set_exited set_op_progress set_join set_task_event set_phase set_position set_register set_result set_saved_callee set_saved_own set_script set_stage set_started set_starting_published set_subtask_handle set_thread_handle set_trapped set_uninteresting set_memory_cell take_result call_made add_call add_thread with_handle with_thread_handle work_queued poll_pends
+  unfolding arrive set_cancel_asked on_thread add_group add_set add_work count_work free_handle free_thread_handle give_handle give_result give_thread_handle on_call on_instance on_work push_high remove_call remove_group remove_set remove_work remove_thread set_backpressure set_cancel_delivered set_cancelled set_course set_do_not_enter set_do_not_suspend set_end set_event set_exited set_op_progress set_join set_task_event set_phase set_position set_register set_result set_saved_callee set_saved_own set_script set_stage set_started set_starting_published set_subtask_handle set_thread_handle set_trapped set_uninteresting set_memory_cell take_result call_made add_call add_thread with_handle with_thread_handle work_queued poll_pends
   handles_primitive (NameCall j k) ok = given_kept j _
   handles_primitive (NameWork j k) ok = given_kept j _
   handles_primitive (OpenSet j) ok = given_kept j _
@@ -91,7 +93,7 @@ module _ (a : Scene) (s : Core) (q : JoinsNamed s) where
   handles_primitive w ok = record { tables = q.tables; names = λ sub x i h at e. e }
 
   sets_primitive : (w : Primitive) → Allowed a w s → SetsKept s (after_primitive w s).sets (after_primitive w s).made.sets
-  unfolding on_thread add_group add_set add_work count_work free_handle free_thread_handle give_handle give_result give_thread_handle on_call on_instance on_work push_high remove_call remove_group remove_set remove_work remove_thread set_backpressure set_cancel_delivered set_cancelled set_course set_do_not_enter set_do_not_suspend set_end set_event set_exited set_op_progress set_join set_task_event set_phase set_position set_register set_result set_saved_callee set_saved_own set_script set_stage set_started set_starting_published set_subtask_handle set_thread_handle set_trapped set_uninteresting set_memory_cell take_result call_made add_call add_thread with_handle with_thread_handle work_queued poll_pends
+  unfolding arrive set_cancel_asked on_thread add_group add_set add_work count_work free_handle free_thread_handle give_handle give_result give_thread_handle on_call on_instance on_work push_high remove_call remove_group remove_set remove_work remove_thread set_backpressure set_cancel_delivered set_cancelled set_course set_do_not_enter set_do_not_suspend set_end set_event set_exited set_op_progress set_join set_task_event set_phase set_position set_register set_result set_saved_callee set_saved_own set_script set_stage set_started set_starting_published set_subtask_handle set_thread_handle set_trapped set_uninteresting set_memory_cell take_result call_made add_call add_thread with_handle with_thread_handle work_queued poll_pends
   sets_primitive (OpenSet j) ok = record {
     numbers = λ x h. grind (arith, nat_tests, get-insert, q.sets x);
     homes = λ sub x i at home. grind (arith, nat_tests, get-insert, q.sets x);
@@ -125,9 +127,9 @@ module _ (a : Scene) (s : Core) (q : JoinsNamed s) where
 
 -- ---- The first state
 
-pub opening_joins : (instances handle_limit capacity : ℕ) → JoinsNamed (fresh instances handle_limit capacity)
+pub opening_joins : (rules : Version) (instances handle_limit capacity : ℕ) → JoinsNamed (fresh rules instances handle_limit capacity)
 unfolding fresh
-opening_joins instances handle_limit capacity = record {
+opening_joins rules instances handle_limit capacity = record {
   tables = λ i t e. rw (filled_with instances i t e) none_made;
   sets = λ x h. let o = get-empty {X = Set} x in absurd (cc);
   joins = unjoined;
@@ -140,7 +142,7 @@ opening_joins instances handle_limit capacity = record {
       once = λ h. omega arith;
     }
 
-    unjoined : (sub : Subtask) (x : ℕ) → join_of sub (fresh instances handle_limit capacity) ≡ Join.Set x →
-        JoinNamed sub x (fresh instances handle_limit capacity)
+    unjoined : (sub : Subtask) (x : ℕ) → join_of sub (fresh rules instances handle_limit capacity) ≡ Join.Set x →
+        JoinNamed sub x (fresh rules instances handle_limit capacity)
     unjoined (Subtask.Guest k) x h = let o = get-empty {X = Call} k in absurd (cc)
     unjoined (Subtask.Host i) x h = let o = get-empty {X = Work} i in absurd (cc)

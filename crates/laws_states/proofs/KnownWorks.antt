@@ -1,13 +1,15 @@
 -- Which host works handles name, and that none names the work of a sync call, along the primitives of a step.
+use Rattle.machine_data.specs.declared.scenario.Version.{Version}
 use Rattle.laws_states.proofs.Primitives.{add_call, add_group, add_set, add_thread, add_work, after_primitive, Allowed, ap, arith, as_subtask, by_number, call_made, change, Core, count_work, free_handle, free_thread_handle, fresh, get, get-change, get-empty, get-insert, get-remove, give_handle, give_result, give_thread_handle, given_names, giving, handle_of_table, op_progress_of, OpProgress, inl, inr, is_async_work, is_some, le_trans, made_works_primitive, MayBeAborted, MayCome, MayRemoveWork, Named, NameWork, nat_tests, next_work, None, none_named, on_call, on_instance, on_thread, on_work, op_came, Option, poll_pends, push_high, QueueWork, refl, remove_call, remove_group, remove_set, remove_thread, remove_work, RemoveWork, Scene, set_backpressure, set_cancel_delivered, set_cancelled, set_course, set_do_not_enter, set_do_not_suspend, set_end, set_event, set_exited, set_op_progress, set_join, set_task_event, set_phase, set_position, set_register, set_result, set_saved_callee, set_saved_own, set_script, set_stage, set_started, set_starting_published, set_subtask_handle, set_thread_handle, set_trapped, set_uninteresting, set_memory_cell, Some, Subtask, subtask_at, subtask_handle, subtask_in, take_result, taking, Thread, too_high, true, UnnameWork, with_handle, with_thread_handle, Primitive, work_caller_of, work_queued, WorkCaller, WorksKnown, ℕ, ⊎_elim, ◌∙◌, ◌≡◌, ◌≤◌, ◌⊎◌}
 use Rattle.laws_states.proofs.NamedCalls.{next_given}
+unfoldable use Rattle.machine_data.specs.Write.{arrive, set_cancel_asked}
 
 -- ---- Who calls a work
 
 -- who calls a work stays until it is removed
 pub caller_stays : (a : Scene) (w : Primitive) (s : Core) → Allowed a w s → (i : ℕ) → i ≤ s.made.works →
     (work_caller_of i (after_primitive w s) ≡ work_caller_of i s) ⊎ (MayRemoveWork a i s × (get (after_primitive w s).works i ≡ None))
-unfolding add_call add_group add_set add_thread add_work count_work free_handle free_thread_handle give_handle give_result give_thread_handle on_call on_instance on_thread on_work push_high remove_call remove_group remove_set remove_thread remove_work set_backpressure set_cancel_delivered set_cancelled set_course set_do_not_enter set_do_not_suspend set_end set_event set_exited set_op_progress set_join set_task_event set_phase set_position set_register set_result set_saved_callee set_saved_own set_script set_stage set_started set_starting_published set_subtask_handle set_thread_handle set_trapped set_uninteresting set_memory_cell take_result call_made with_handle with_thread_handle work_queued poll_pends
+unfolding arrive set_cancel_asked add_call add_group add_set add_thread add_work count_work free_handle free_thread_handle give_handle give_result give_thread_handle on_call on_instance on_thread on_work push_high remove_call remove_group remove_set remove_thread remove_work set_backpressure set_cancel_delivered set_cancelled set_course set_do_not_enter set_do_not_suspend set_end set_event set_exited set_op_progress set_join set_task_event set_phase set_position set_register set_result set_saved_callee set_saved_own set_script set_stage set_started set_starting_published set_subtask_handle set_thread_handle set_trapped set_uninteresting set_memory_cell take_result call_made with_handle with_thread_handle work_queued poll_pends
 caller_stays a (RemoveWork j) s ok i below = by_number j i _ (λ e. inr (rw e at ok, grind (arith, nat_tests, get-remove)))
     (λ e. inl (grind (arith, nat_tests, get-remove, e)))
 caller_stays a w s ok i below = inl (grind (arith, nat_tests, get-change, get-insert))
@@ -15,7 +17,7 @@ caller_stays a w s ok i below = inl (grind (arith, nat_tests, get-change, get-in
 -- a work that is gone doesn't come back
 pub none_stays : (a : Scene) (w : Primitive) (s : Core) → Allowed a w s → (i : ℕ) → i ≤ s.made.works → get s.works i ≡ None →
     get (after_primitive w s).works i ≡ None
-unfolding add_call add_group add_set add_thread add_work count_work free_handle free_thread_handle give_handle give_result give_thread_handle on_call on_instance on_thread on_work push_high remove_call remove_group remove_set remove_thread remove_work set_backpressure set_cancel_delivered set_cancelled set_course set_do_not_enter set_do_not_suspend set_end set_event set_exited set_op_progress set_join set_task_event set_phase set_position set_register set_result set_saved_callee set_saved_own set_script set_stage set_started set_starting_published set_subtask_handle set_thread_handle set_trapped set_uninteresting set_memory_cell take_result call_made with_handle with_thread_handle work_queued poll_pends
+unfolding arrive set_cancel_asked add_call add_group add_set add_thread add_work count_work free_handle free_thread_handle give_handle give_result give_thread_handle on_call on_instance on_thread on_work push_high remove_call remove_group remove_set remove_thread remove_work set_backpressure set_cancel_delivered set_cancelled set_course set_do_not_enter set_do_not_suspend set_end set_event set_exited set_op_progress set_join set_task_event set_phase set_position set_register set_result set_saved_callee set_saved_own set_script set_stage set_started set_starting_published set_subtask_handle set_thread_handle set_trapped set_uninteresting set_memory_cell take_result call_made with_handle with_thread_handle work_queued poll_pends
 none_stays a w s ok i below none = grind (arith, nat_tests, get-change, get-insert, get-remove, none)
 
 pub abort_kept : (a : Scene) (w : Primitive) (s : Core) → Allowed a w s → (i : ℕ) → MayBeAborted s i → MayBeAborted (after_primitive w s) i
@@ -73,7 +75,7 @@ unnamed_removed a base j s q (m, (is, (same, inl (far, done)))) =
 unnamed_removed a base j s q (m, (is, (same, inr ended))) = ended.1.0
 
 pub works_said_primitive : (a : Scene) → WorksKnown a.base → (w : Primitive) (s : Core) → Allowed a w s → WorksSaid s → WorksSaid (after_primitive w s)
-unfolding add_call add_group add_set add_thread add_work call_made count_work free_handle free_thread_handle give_handle give_result give_thread_handle on_call on_instance on_thread on_work poll_pends push_high remove_call remove_group remove_set remove_thread remove_work set_backpressure set_cancel_delivered set_cancelled set_course set_do_not_enter set_do_not_suspend set_end set_event set_exited set_op_progress set_join set_task_event set_phase set_position set_register set_result set_saved_callee set_saved_own set_script set_stage set_started set_starting_published set_subtask_handle set_thread_handle set_trapped set_uninteresting set_memory_cell take_result with_handle with_thread_handle work_queued
+unfolding arrive set_cancel_asked add_call add_group add_set add_thread add_work call_made count_work free_handle free_thread_handle give_handle give_result give_thread_handle on_call on_instance on_thread on_work poll_pends push_high remove_call remove_group remove_set remove_thread remove_work set_backpressure set_cancel_delivered set_cancelled set_course set_do_not_enter set_do_not_suspend set_end set_event set_exited set_op_progress set_join set_task_event set_phase set_position set_register set_result set_saved_callee set_saved_own set_script set_stage set_started set_starting_published set_subtask_handle set_thread_handle set_trapped set_uninteresting set_memory_cell take_result with_handle with_thread_handle work_queued
 works_said_primitive a base (NameWork i k) s ok q = record {
   known = record {
     there = λ l g j e. ⊎_elim (λ f. old l g j f) (λ f. grind (arith, nat_tests, get-change, f.0, f.1.1, next_given i s)) (new l g j e);
@@ -138,9 +140,9 @@ works_said_primitive a base w s ok q = record {
   number = λ j e. grind (arith, nat_tests, get-change, q.number j);
 }
 
-pub opening_works_known : (instances handle_limit capacity : ℕ) → WorksKnown (fresh instances handle_limit capacity)
+pub opening_works_known : (rules : Version) (instances handle_limit capacity : ℕ) → WorksKnown (fresh rules instances handle_limit capacity)
 unfolding fresh
-opening_works_known instances handle_limit capacity = record {
+opening_works_known rules instances handle_limit capacity = record {
   there = λ i h j e. let n = none_named instances i h in absurd (cc);
   once = λ i l h g j e f. let n = none_named instances i h in absurd (cc);
   async = λ h j e. absurd (grind (arith, get-empty));

@@ -1,6 +1,8 @@
 -- Which calls handles and ops name: along the primitives of a step each handle of a call is the one in its record, and an op is
 -- inside a call that its thread made and no handle names.
+use Rattle.machine_data.specs.declared.scenario.Version.{Version}
 use Rattle.laws_states.proofs.Primitives.{add_call, add_group, add_set, add_thread, add_work, after_primitive, Allowed, ap, arith, as_subtask, at_most_returned, Call, call_came, call_made, CallAfter, CallEnd, Caller, cancel_was_delivered, change, Core, count_work, false, free_handle, free_thread_handle, fresh, get, get-change, get-empty, get-insert, get-remove, give_handle, give_result, give_thread_handle, given_names, giving, Grown, handle_of_table, op_progress_of, OpProgress, inl, inr, instance_of, is_cancelled, is_deletable, is_some, is_uncancelled, IsCalled, IsNamed, le_trans, made_threads_primitive, MakeCall, MayCome, MayDeliver, MayEnd, MayNameCall, MayOwe, NameCall, Named, NamesKnown, nat_tests, new_handle, NewCall, next_thread, NoCall, None, none_named, not, on_call, on_instance, on_thread, on_work, OnlyCalled, op_came, Option, option_and_then, option_map_or, task_event_of, TaskEvent, poll_pends, push_high, refl, remove_call, remove_group, remove_set, remove_thread, remove_work, RemoveCall, Scene, set_backpressure, set_cancel_delivered, set_cancelled, set_course, set_do_not_enter, set_do_not_suspend, set_end, set_event, set_exited, set_op_progress, set_join, set_task_event, set_phase, set_position, set_register, set_result, set_saved_callee, set_saved_own, set_script, set_stage, set_started, set_starting_published, set_subtask_handle, set_thread_handle, set_trapped, set_uninteresting, set_memory_cell, Some, some_none, subst, Subtask, subtask_at, subtask_handle, subtask_in, sym, take_result, taking, Thread, too_high, true, Turn, UnnameCall, with_handle, with_thread_handle, Primitive, work_queued, ℕ, ⊎_elim, ◌∙◌, ◌≡◌, ◌≤◌, ◌⊎◌}
+unfoldable use Rattle.machine_data.specs.Write.{arrive, set_cancel_asked}
 
 -- the call that the running thread's op is inside of before the step is there
 abbrev pub InsideThere : Scene → Type 0
@@ -114,7 +116,7 @@ module _ (a : Scene) (base : NamesHold a.base) (there : InsideThere a) where
   }
 
   names_known_primitive : (w : Primitive) (s : Core) → Allowed a w s → NamesHold s → WereInside a s → NamesHold (after_primitive w s)
-  unfolding add_call add_group add_set add_thread add_work call_made count_work free_handle free_thread_handle give_handle give_result give_thread_handle on_call on_instance on_thread on_work poll_pends push_high remove_call remove_group remove_set remove_thread remove_work set_backpressure set_cancel_delivered set_cancelled set_course set_do_not_enter set_do_not_suspend set_end set_event set_exited set_op_progress set_join set_task_event set_phase set_position set_register set_result set_saved_callee set_saved_own set_script set_stage set_started set_starting_published set_subtask_handle set_thread_handle set_trapped set_uninteresting set_memory_cell take_result with_handle with_thread_handle work_queued
+  unfolding arrive set_cancel_asked add_call add_group add_set add_thread add_work call_made count_work free_handle free_thread_handle give_handle give_result give_thread_handle on_call on_instance on_thread on_work poll_pends push_high remove_call remove_group remove_set remove_thread remove_work set_backpressure set_cancel_delivered set_cancelled set_course set_do_not_enter set_do_not_suspend set_end set_event set_exited set_op_progress set_join set_task_event set_phase set_position set_register set_result set_saved_callee set_saved_own set_script set_stage set_started set_starting_published set_subtask_handle set_thread_handle set_trapped set_uninteresting set_memory_cell take_result with_handle with_thread_handle work_queued
   names_known_primitive (NameCall i j) s ok q were = record {
     known = record {
       there = λ l g k e. ⊎_elim (λ f. old l g k f) (λ f. grind (arith, nat_tests, get-change, is.0, is.1, f.0, f.1.1, next_given i s)) (new l g k e);
@@ -169,9 +171,9 @@ names_go_primitive a base there w s ok q = record {
   were = λ n k far. (inside a w s ok q.hold q.were n k far).0;
 }
 
-pub opening_names_known : (instances handle_limit capacity : ℕ) → NamesKnown (fresh instances handle_limit capacity)
+pub opening_names_known : (rules : Version) (instances handle_limit capacity : ℕ) → NamesKnown (fresh rules instances handle_limit capacity)
 unfolding fresh
-opening_names_known instances handle_limit capacity = record {
+opening_names_known rules instances handle_limit capacity = record {
   there = λ i h k e. let n = none_named instances i h in absurd (cc);
   once = λ i j h g k e f. let n = none_named instances i h in absurd (cc);
   called = λ n k far. let o = get-empty {X = Thread} n in absurd (grind arith);

@@ -1,23 +1,25 @@
 -- At most one holding entry of an instance runs at a time: each primitive, each step, and each run.
+use Rattle.machine_data.specs.declared.scenario.Version.{Version}
 use Rattle.laws_states.proofs.Primitives.{[], add_call, add_group, add_set, add_thread, add_work, AddGroup, after_primitive, Allowed, along, arith, begun_holder, Bool, Call, call_came, call_instance, call_made, CallAfter, Callee, callee_of, callee_of_op, CalleesExist, Caller, Component, component_of, Core, count_work, false, filled, filter, free_handle, free_thread_handle, fresh, get, get-change, get-empty, get-insert, give_handle, give_result, give_thread_handle, Grown, history, holds_one, is_among, is_some, Label, LastPrimitives, less_holder, List, list_any, Main, may_not_enter, MayCall, nat_tests, NewCall, NoCall, None, not, on_call, on_instance, on_thread, on_work, Op, op_at_place, op_in, op_of, ops_plain, Option, option_map_or, plain, plain_scene, poll_pends, push_high, Queues, refl, remove_call, remove_group, remove_set, remove_thread, remove_work, returned_holder, Run, RunsHoldOne, SameMain, Scene, Script, script_in, script_of, script_of_thread, Scripted, set_backpressure, set_cancel_delivered, set_cancelled, set_course, set_do_not_enter, set_do_not_suspend, set_end, set_event, set_exited, set_op_progress, set_join, set_task_event, set_phase, set_position, set_register, set_result, set_saved_callee, set_saved_own, set_script, set_stage, set_started, set_starting_published, set_subtask_handle, set_thread_handle, set_trapped, set_uninteresting, set_memory_cell, SetDoNotEnter, Setting, slice_get, Some, State, Step, step_walks, subst, take_result, Thread, true, Unscripted, untouched, Walk, Walked, with_handle, with_holder, with_thread_handle, Primitive, work_queued, ℕ, ◌<◌, ◌==◌, ◌∙◌, ◌∷◌, ◌≡◌, ◌⊎◌}
 use Rattle.machine_rules.specs.Allowed as may
+unfoldable use Rattle.machine_data.specs.Write.{arrive, set_cancel_asked}
 
 -- ---- Instances
 
 pub instance_stays : (w : Primitive) (s : Core) (i : ℕ) → is_some (get (after_primitive w s).instances i) ≡ is_some (get s.instances i)
-unfolding add_call add_group add_set add_thread add_work count_work free_handle free_thread_handle give_handle give_result give_thread_handle on_call on_instance on_thread on_work push_high remove_call remove_group remove_set remove_thread remove_work set_backpressure set_cancel_delivered set_cancelled set_course set_do_not_enter set_do_not_suspend set_end set_event set_exited set_op_progress set_join set_task_event set_phase set_position set_register set_result set_saved_callee set_saved_own set_script set_stage set_started set_starting_published set_subtask_handle set_thread_handle set_trapped set_uninteresting set_memory_cell take_result call_made with_handle with_thread_handle work_queued poll_pends
+unfolding arrive set_cancel_asked add_call add_group add_set add_thread add_work count_work free_handle free_thread_handle give_handle give_result give_thread_handle on_call on_instance on_thread on_work push_high remove_call remove_group remove_set remove_thread remove_work set_backpressure set_cancel_delivered set_cancelled set_course set_do_not_enter set_do_not_suspend set_end set_event set_exited set_op_progress set_join set_task_event set_phase set_position set_register set_result set_saved_callee set_saved_own set_script set_stage set_started set_starting_published set_subtask_handle set_thread_handle set_trapped set_uninteresting set_memory_cell take_result call_made with_handle with_thread_handle work_queued poll_pends
 instance_stays AddGroup s i = refl
 instance_stays w s i = first_of (search, grind (arith, nat_tests, get-change))
 
 pub table_stays : (w : Primitive) (s : Core) (i : ℕ) → is_some (get (after_primitive w s).handles i) ≡ is_some (get s.handles i)
-unfolding add_call add_group add_set add_thread add_work count_work free_handle free_thread_handle give_handle give_result give_thread_handle on_call on_instance on_thread on_work push_high remove_call remove_group remove_set remove_thread remove_work set_backpressure set_cancel_delivered set_cancelled set_course set_do_not_enter set_do_not_suspend set_end set_event set_exited set_op_progress set_join set_task_event set_phase set_position set_register set_result set_saved_callee set_saved_own set_script set_stage set_started set_starting_published set_subtask_handle set_thread_handle set_trapped set_uninteresting set_memory_cell take_result call_made with_handle with_thread_handle work_queued poll_pends
+unfolding arrive set_cancel_asked add_call add_group add_set add_thread add_work count_work free_handle free_thread_handle give_handle give_result give_thread_handle on_call on_instance on_thread on_work push_high remove_call remove_group remove_set remove_thread remove_work set_backpressure set_cancel_delivered set_cancelled set_course set_do_not_enter set_do_not_suspend set_end set_event set_exited set_op_progress set_join set_task_event set_phase set_position set_register set_result set_saved_callee set_saved_own set_script set_stage set_started set_starting_published set_subtask_handle set_thread_handle set_trapped set_uninteresting set_memory_cell take_result call_made with_handle with_thread_handle work_queued poll_pends
 table_stays AddGroup s i = refl
 table_stays w s i = first_of (search, grind (arith, nat_tests, get-change))
 
 -- it stays shut unless a holding entry of it returns
 shut_stays : (a : Scene) (w : Primitive) (s : Core) → Allowed a w s → (i : ℕ) → (returned_holder a.base a.label ≡ Some i → ⊥) →
     may_not_enter i s ≡ true → may_not_enter i (after_primitive w s) ≡ true
-unfolding add_call add_group add_set add_thread add_work count_work free_handle free_thread_handle give_handle give_result give_thread_handle on_call on_instance on_thread on_work push_high remove_call remove_group remove_set remove_thread remove_work set_backpressure set_cancel_delivered set_cancelled set_course set_do_not_enter set_do_not_suspend set_end set_event set_exited set_op_progress set_join set_task_event set_phase set_position set_register set_result set_saved_callee set_saved_own set_script set_stage set_started set_starting_published set_subtask_handle set_thread_handle set_trapped set_uninteresting set_memory_cell take_result call_made with_handle with_thread_handle work_queued poll_pends
+unfolding arrive set_cancel_asked add_call add_group add_set add_thread add_work count_work free_handle free_thread_handle give_handle give_result give_thread_handle on_call on_instance on_thread on_work push_high remove_call remove_group remove_set remove_thread remove_work set_backpressure set_cancel_delivered set_cancelled set_course set_do_not_enter set_do_not_suspend set_end set_event set_exited set_op_progress set_join set_task_event set_phase set_position set_register set_result set_saved_callee set_saved_own set_script set_stage set_started set_starting_published set_subtask_handle set_thread_handle set_trapped set_uninteresting set_memory_cell take_result call_made with_handle with_thread_handle work_queued poll_pends
 shut_stays a (SetDoNotEnter j true) s ok i other h = grind (arith, nat_tests, get-change)
 shut_stays a (SetDoNotEnter j false) s ok i other h = grind (arith, nat_tests, get-change)
 shut_stays a w s ok i other h = first_of (assumption, grind (arith, nat_tests, get-change))
@@ -166,9 +168,9 @@ filled_at : {X : Type 0} (x : X) (n i : ℕ) → i < n → is_some (get (filled 
 filled_at x ℕ.zero i below = absurd (omega arith)
 filled_at x (ℕ.suc n) i below = let rest = filled_at x n i in grind (arith, nat_tests, get-insert)
 
-opening_housed : (instances handle_limit capacity : ℕ) → Housed instances (fresh instances handle_limit capacity)
+opening_housed : (rules : Version) (instances handle_limit capacity : ℕ) → Housed instances (fresh rules instances handle_limit capacity)
 unfolding fresh
-opening_housed instances handle_limit capacity = record {
+opening_housed rules instances handle_limit capacity = record {
   there = λ i below. filled_at untouched instances i below;
   homes = λ k c e. let o = get-empty {X = Call} k in absurd (cc);
 }
@@ -183,5 +185,5 @@ run_holds x instances exist s h m (l ∷ ls) t run inside shut =
     rw first (run_holds x instances exist run.0 k.housed k.main ls t run.1.1 _ (still_shut s l run.0 inside k shut))
 
 pub runs_hold_one : RunsHoldOne
-runs_hold_one x instances handle_limit capacity p ls t exist run =
-    run_holds x instances exist _ (opening_housed instances handle_limit capacity) tt ls t run [] (λ i h. absurd (cc))
+runs_hold_one x rules instances handle_limit capacity p ls t exist run =
+    run_holds x instances exist _ (opening_housed rules instances handle_limit capacity) tt ls t run [] (λ i h. absurd (cc))

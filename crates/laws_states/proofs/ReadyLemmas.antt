@@ -1,6 +1,7 @@
 -- Which members of sets have an event: along the primitives of a step.
 use Rattle.laws_states.proofs.Primitives.{add_call, add_group, add_set, add_thread, add_work, after_primitive, Allowed, and_parts, arith, by_number, call_made, CallEnd, Core, count_work, EndCall, event_of, Exits, false, free_handle, free_thread_handle, get-change, get-insert, get-remove, give_handle, give_result, give_thread_handle, GivesUp, host_taken, inl, inr, is_explicit, is_in_set, is_join, is_ready_member, is_some, is_told, IsRunner, IsStarting, IsWithdrawn, Join, join_of, MayEnd, nat_tests, None, on_call, on_instance, on_thread, on_work, op_in, poll_pends, push_high, remove_call, remove_group, remove_set, remove_thread, remove_work, ReturnsNow, SaysEnd, Scene, set_backpressure, set_cancel_delivered, set_cancelled, set_course, set_do_not_enter, set_do_not_suspend, set_end, set_event, set_exited, set_op_progress, set_join, set_task_event, set_phase, set_position, set_register, set_result, set_saved_callee, set_saved_own, set_script, set_stage, set_started, set_starting_published, set_subtask_handle, set_thread_handle, set_trapped, set_uninteresting, set_memory_cell, SetCallEvent, Some, status_of_end, subst, Subtask, sym, take_result, TakeHost, task_of, true, Turn, WasReady, Why, with_handle, with_thread_handle, Primitive, work_queued, ℕ, ⊎_elim, ◌≡◌, ◌≤◌, ◌⊎◌}
 use Rattle.laws_states.proofs.{EventLemmas.TellingGoes, EventLemmas.taken_label, EventLemmas.telling_primitive, Joins.now_joined}
+unfoldable use Rattle.machine_data.specs.Write.{arrive, set_cancel_asked}
 
 -- ---- Events
 
@@ -15,7 +16,7 @@ ended_event k y s h = grind (arith, nat_tests, get-change)
 
 guest_primitive : (a : Scene) (w : Primitive) (s : Core) → Allowed a w s → (k : ℕ) → is_some (event_of (Subtask.Guest k) (after_primitive w s)) ≡ true →
     (is_some (event_of (Subtask.Guest k) s) ≡ true) ⊎ GuestTold a k s
-unfolding add_call add_group add_set add_thread add_work count_work free_handle free_thread_handle give_handle give_result give_thread_handle on_call on_instance on_thread on_work push_high remove_call remove_group remove_set remove_thread remove_work set_backpressure set_cancel_delivered set_cancelled set_course set_do_not_enter set_do_not_suspend set_end set_event set_exited set_op_progress set_join set_task_event set_phase set_position set_register set_result set_saved_callee set_saved_own set_script set_stage set_started set_starting_published set_subtask_handle set_thread_handle set_trapped set_uninteresting set_memory_cell take_result call_made with_handle with_thread_handle work_queued poll_pends GuestTold
+unfolding arrive set_cancel_asked add_call add_group add_set add_thread add_work count_work free_handle free_thread_handle give_handle give_result give_thread_handle on_call on_instance on_thread on_work push_high remove_call remove_group remove_set remove_thread remove_work set_backpressure set_cancel_delivered set_cancelled set_course set_do_not_enter set_do_not_suspend set_end set_event set_exited set_op_progress set_join set_task_event set_phase set_position set_register set_result set_saved_callee set_saved_own set_script set_stage set_started set_starting_published set_subtask_handle set_thread_handle set_trapped set_uninteresting set_memory_cell take_result call_made with_handle with_thread_handle work_queued poll_pends GuestTold
 guest_primitive a (SetCallEvent j None) s ok k h = inl (grind (arith, nat_tests, get-change))
 guest_primitive a (SetCallEvent j (Some e)) s ok k h = by_number k j _
     (λ same. inr (inl (subst (λ (i : ℕ). IsStarting a i s) (sym same) ok.1.1))) (λ other. inl (grind (arith, nat_tests, get-change, other)))
@@ -27,7 +28,7 @@ guest_primitive a w s ok k h = inl (grind (arith, nat_tests, get-change, get-ins
 
 host_primitive : (a : Scene) (w : Primitive) (s : Core) → Allowed a w s → (i : ℕ) → is_some (event_of (Subtask.Host i) (after_primitive w s)) ≡ true →
     (is_some (event_of (Subtask.Host i) s) ≡ true) ⊎ (host_taken a.label ≡ Some i)
-unfolding add_call add_group add_set add_thread add_work count_work free_handle free_thread_handle give_handle give_result give_thread_handle on_call on_instance on_thread on_work push_high remove_call remove_group remove_set remove_thread remove_work set_backpressure set_cancel_delivered set_cancelled set_course set_do_not_enter set_do_not_suspend set_end set_event set_exited set_op_progress set_join set_task_event set_phase set_position set_register set_result set_saved_callee set_saved_own set_script set_stage set_started set_starting_published set_subtask_handle set_thread_handle set_trapped set_uninteresting set_memory_cell take_result call_made with_handle with_thread_handle work_queued poll_pends
+unfolding arrive set_cancel_asked add_call add_group add_set add_thread add_work count_work free_handle free_thread_handle give_handle give_result give_thread_handle on_call on_instance on_thread on_work push_high remove_call remove_group remove_set remove_thread remove_work set_backpressure set_cancel_delivered set_cancelled set_course set_do_not_enter set_do_not_suspend set_end set_event set_exited set_op_progress set_join set_task_event set_phase set_position set_register set_result set_saved_callee set_saved_own set_script set_stage set_started set_starting_published set_subtask_handle set_thread_handle set_trapped set_uninteresting set_memory_cell take_result call_made with_handle with_thread_handle work_queued poll_pends
 host_primitive a (TakeHost m j) s ok i h = by_number i j _ (λ is. inr (rw is (taken_label a m j ok.1.0 ok.1.1.0))) (λ other. inl (grind (arith, nat_tests, get-change, other)))
 host_primitive a w s ok i h = inl (grind (arith, nat_tests, get-change, get-insert, get-remove))
 

@@ -1,6 +1,8 @@
 -- What handles name along the primitives of a step: those of sets name a set of their own instance, and no two name one set.
+use Rattle.machine_data.specs.declared.scenario.Version.{Version}
 use Rattle.laws_states.proofs.Rules.{add_call, add_group, add_set, add_thread, add_work, after_primitive, Allowed, arith, as_set, as_subtask, call_made, change, CloseSet, Core, count_work, filled, free_handle, free_thread_handle, fresh, get, get-change, get-empty, get-insert, get-remove, give_handle, give_result, give_thread_handle, giving, handle_of_table, NameCall, Named, named_by, NameWork, nat_tests, no_handles, None, on_call, on_instance, on_thread, on_work, OpenSet, Option, option_and_then, option_map, poll_pends, push_high, Reached, Records, refl, remove_call, remove_group, remove_set, remove_thread, remove_work, Scene, Set, set_at, set_backpressure, set_cancel_delivered, set_cancelled, set_course, set_do_not_enter, set_do_not_suspend, set_end, set_event, set_exited, set_op_progress, set_join, set_task_event, set_phase, set_position, set_register, set_result, set_saved_callee, set_saved_own, set_script, set_stage, set_started, set_starting_published, set_subtask_handle, set_thread_handle, set_trapped, set_uninteresting, set_memory_cell, SetsNamed, SetsNamedAtHome, SetsNamedOnce, Setting, Some, State, Subtask, NameTable, take_result, taking, UnnameCall, UnnameWork, with_handle, with_thread_handle, Primitive, work_queued, ℕ, ◌+◌, ◌≡◌, ◌⊎◌}
 use Rattle.laws_states.proofs.ReachLemmas.{filled_with, reached_kept}
+unfoldable use Rattle.machine_data.specs.Write.{arrive, set_cancel_asked}
 
 -- what a handle names, and of which instance a set is, in these tables
 abbrev pub set_in : Records (NameTable Named) → ℕ → ℕ → Option ℕ
@@ -29,7 +31,7 @@ fewer_named made sets old q = record {
 }
 
 pub sets_named_primitive : (a : Scene) (w : Primitive) (s : Core) → Allowed a w s → SetsNamed s → SetsNamed (after_primitive w s)
-unfolding add_call add_group add_set add_thread add_work call_made count_work free_handle free_thread_handle give_handle give_result give_thread_handle on_call on_instance on_thread on_work poll_pends push_high remove_call remove_group remove_set remove_thread remove_work set_backpressure set_cancel_delivered set_cancelled set_course set_do_not_enter set_do_not_suspend set_end set_event set_exited set_op_progress set_join set_task_event set_phase set_position set_register set_result set_saved_callee set_saved_own set_script set_stage set_started set_starting_published set_subtask_handle set_thread_handle set_trapped set_uninteresting set_memory_cell take_result with_handle with_thread_handle work_queued
+unfolding arrive set_cancel_asked add_call add_group add_set add_thread add_work call_made count_work free_handle free_thread_handle give_handle give_result give_thread_handle on_call on_instance on_thread on_work poll_pends push_high remove_call remove_group remove_set remove_thread remove_work set_backpressure set_cancel_delivered set_cancelled set_course set_do_not_enter set_do_not_suspend set_end set_event set_exited set_op_progress set_join set_task_event set_phase set_position set_register set_result set_saved_callee set_saved_own set_script set_stage set_started set_starting_published set_subtask_handle set_thread_handle set_trapped set_uninteresting set_memory_cell take_result with_handle with_thread_handle work_queued
 sets_named_primitive a (NameCall i k) s ok q = fewer_named refl refl (λ j g x e. grind (arith, nat_tests, get-change, get-insert)) q
 sets_named_primitive a (NameWork i w) s ok q = fewer_named refl refl (λ j g x e. grind (arith, nat_tests, get-change, get-insert)) q
 sets_named_primitive a (UnnameCall i h k) s ok q = fewer_named refl refl (λ j g x e. grind (arith, nat_tests, get-change, get-remove)) q
@@ -62,9 +64,9 @@ none_named n i h = go (get (filled no_handles n) i) (λ t is. filled_with n i t 
     go None f = refl
     go (Some t) f = rw (f t refl) (get-empty h)
 
-pub opening_sets : (instances handle_limit capacity : ℕ) → SetsNamed (fresh instances handle_limit capacity)
+pub opening_sets : (rules : Version) (instances handle_limit capacity : ℕ) → SetsNamed (fresh rules instances handle_limit capacity)
 unfolding fresh
-opening_sets instances handle_limit capacity = record {
+opening_sets rules instances handle_limit capacity = record {
   number = λ i h x e. let n = none_named instances i h in absurd (cc);
   home = λ i h x e. let n = none_named instances i h in absurd (cc);
   once = λ i j h g x e f. let n = none_named instances i h in absurd (cc);

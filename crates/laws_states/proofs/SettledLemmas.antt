@@ -1,6 +1,7 @@
 -- Where no host of a component is open and main is a script, no step makes an open work, and no poll asks one.
 use Rattle.laws_states.proofs.Primitives.{[], add_call, add_group, add_set, add_thread, add_work, AddGroup, after_primitive, Allowed, along, ap, arith, Asked, Bool, call_made, component_of, Core, count_work, Course, course_of, EndWork, false, FinishWork, free_handle, free_thread_handle, FuturesStep, get-change, get-insert, get-remove, give_handle, give_result, give_thread_handle, goes_open, HasAnswered, HasOpen, heard, host_at, HostDef, HostPoll, is_aborted, is_asked, IsKnown, IsSettled, Label, List, Main, nat_tests, None, NoneIsAsked, NoneOpen, on_call, on_instance, on_thread, on_work, OpenWorksAnswer, ops_of, Pend, Phase, phase_of, Poll, poll_of, poll_pends, Polled, polled_again, polled_course, polled_in, push_high, QueueWork, refl, remove_call, remove_group, remove_set, remove_thread, remove_work, Run, RunsStaySettled, SameMain, Scene, scene_as, Scripted, set_backpressure, set_cancel_delivered, set_cancelled, set_course, set_do_not_enter, set_do_not_suspend, set_end, set_event, set_exited, set_op_progress, set_join, set_task_event, set_phase, set_position, set_register, set_result, set_saved_callee, set_saved_own, set_script, set_stage, set_started, set_starting_published, set_subtask_handle, set_thread_handle, set_trapped, set_uninteresting, set_memory_cell, Setting, SettledStays, Some, State, Step, step_walks, suc, sym, take_result, true, Turn, TurnStep, Unscripted, with_handle, with_thread_handle, Primitive, work_queued, zero, ⊎_elim, ◌∙◌, ◌∷◌, ◌≡◌, ◌⊎◌, Component, Option, subst, ℕ}
 use Rattle.machine_data.specs.Read.{is_open}
+unfoldable use Rattle.machine_data.specs.Write.{arrive, set_cancel_asked}
 
 no_truth : (b : Bool) → (b ≡ true → ⊥) → b ≡ false
 no_truth true never = absurd (never refl)
@@ -14,7 +15,7 @@ module _ (a : Scene) (settled : IsSettled (component_of a) a.main) where
   none_may b may = no_truth b (λ e. ⊎_elim settled.hosts settled.main (may e))
 
   open_primitive : (w : Primitive) (s : Core) → Allowed a w s → NoneOpen s → NoneOpen (after_primitive w s)
-  unfolding add_call add_group add_set add_thread add_work call_made count_work free_handle free_thread_handle give_handle give_result give_thread_handle on_call on_instance on_thread on_work poll_pends push_high remove_call remove_group remove_set remove_thread remove_work set_backpressure set_cancel_delivered set_cancelled set_course set_do_not_enter set_do_not_suspend set_end set_event set_exited set_op_progress set_join set_task_event set_phase set_position set_register set_result set_saved_callee set_saved_own set_script set_stage set_started set_starting_published set_subtask_handle set_thread_handle set_trapped set_uninteresting set_memory_cell take_result with_handle with_thread_handle work_queued
+  unfolding arrive set_cancel_asked add_call add_group add_set add_thread add_work call_made count_work free_handle free_thread_handle give_handle give_result give_thread_handle on_call on_instance on_thread on_work poll_pends push_high remove_call remove_group remove_set remove_thread remove_work set_backpressure set_cancel_delivered set_cancelled set_course set_do_not_enter set_do_not_suspend set_end set_event set_exited set_op_progress set_join set_task_event set_phase set_position set_register set_result set_saved_callee set_saved_own set_script set_stage set_started set_starting_published set_subtask_handle set_thread_handle set_trapped set_uninteresting set_memory_cell take_result with_handle with_thread_handle work_queued
   open_primitive AddGroup s ok q i = q i
   open_primitive (QueueWork f host group) s ok q i = let h = q i in let no = none_may (is_open host) ok.1.1 in grind (arith, nat_tests, get-insert, h, no)
   open_primitive (Pend j host) s ok q i = let h = q i in let g = q j in let no = no_truth (is_open host) (λ e. let is = ok.1 e in let never : ◌≡◌ {A = Bool} true false = sym is ∙ g in cc) in grind (arith, nat_tests, get-change, h, no)

@@ -1,11 +1,12 @@
 -- The first thread of a call that waits for its start is there, along the primitives of a step that doesn't end the turns.
 use Rattle.laws_states.proofs.Primitives.{add_call, add_group, add_set, add_thread, add_work, after_primitive, Allowed, along, arith, by_number, Call, call_came, call_made, CallAfter, CallsTold, Core, count_work, Departs, EndsOver, Unwinds, free_handle, free_thread_handle, get, get-change, get-insert, get-remove, give_handle, give_result, give_thread_handle, inl, inr, is_over, is_some, is_there, is_unbegun, IsNamed, MakeCall, MayGo, nat_tests, next_thread, None, on_call, on_instance, on_thread, on_work, Option, Place, place_of, Places, placing_shifted, poll_pends, popped_threads, push_high, refl, remove_call, remove_group, remove_set, remove_thread, remove_work, RemoveThread, SaysEnd, Scene, set_backpressure, set_cancel_delivered, set_cancelled, set_course, set_do_not_enter, set_do_not_suspend, set_end, set_event, set_exited, set_op_progress, set_join, set_task_event, set_phase, set_position, set_register, set_result, set_saved_callee, set_saved_own, set_script, set_stage, set_started, set_starting_published, set_subtask_handle, set_thread_handle, set_trapped, set_uninteresting, set_memory_cell, Some, StartsAwaited, Status, Subtask, take_result, TakeHost, TakePush, too_high, true, Turn, with_handle, with_thread_handle, Withdraw, Primitive, work_queued, Writes, WritesAtOnce, WritesCall, WritesNever, WritesPolled, ℕ, ⊎_elim, ◌≡◌, ◌≤◌, ◌⊎◌}
 use Rattle.laws_states.proofs.StepEnds.{over_primitive}
+unfoldable use Rattle.machine_data.specs.Write.{arrive, set_cancel_asked}
 
 -- who is there stays, is gone, or is withdrawn
 there_primitive : (a : Scene) (w : Primitive) (s : Core) → Allowed a w s → (k : ℕ) → is_there k s ≡ true →
     (is_there k (after_primitive w s) ≡ true) ⊎ ((w ≡ RemoveThread k) ⊎ (w ≡ Withdraw k))
-unfolding add_call add_group add_set add_thread add_work call_made count_work free_handle free_thread_handle give_handle give_result give_thread_handle on_call on_instance on_thread on_work poll_pends push_high remove_call remove_group remove_set remove_thread remove_work set_backpressure set_cancel_delivered set_cancelled set_course set_do_not_enter set_do_not_suspend set_end set_event set_exited set_op_progress set_join set_task_event set_phase set_position set_register set_result set_saved_callee set_saved_own set_script set_stage set_started set_starting_published set_subtask_handle set_thread_handle set_trapped set_uninteresting set_memory_cell take_result with_handle with_thread_handle work_queued
+unfolding arrive set_cancel_asked add_call add_group add_set add_thread add_work call_made count_work free_handle free_thread_handle give_handle give_result give_thread_handle on_call on_instance on_thread on_work poll_pends push_high remove_call remove_group remove_set remove_thread remove_work set_backpressure set_cancel_delivered set_cancelled set_course set_do_not_enter set_do_not_suspend set_end set_event set_exited set_op_progress set_join set_task_event set_phase set_position set_register set_result set_saved_callee set_saved_own set_script set_stage set_started set_starting_published set_subtask_handle set_thread_handle set_trapped set_uninteresting set_memory_cell take_result with_handle with_thread_handle work_queued
 there_primitive a (Places p) s ok k h = inl (grind (arith, (placing_shifted p s).threads k))
 there_primitive a (TakePush m i) s ok k h = inl (rw (popped_threads m s) h)
 there_primitive a (TakeHost m i) s ok k h = inl (rw (popped_threads m s) h)
@@ -23,7 +24,7 @@ unbegun_came a w s ok k now = let i : CallAfter a w s k = call_came w s ok k in 
 -- and a new one has its thread
 new_there : (a : Scene) (w : Primitive) (s : Core) → Allowed a w s → (k : ℕ) → k ≡ next_thread s → get s.calls k ≡ None →
     is_some (get (after_primitive w s).calls k) ≡ true → is_there k (after_primitive w s) ≡ true
-unfolding add_call add_group add_set add_thread add_work call_made count_work free_handle free_thread_handle give_handle give_result give_thread_handle on_call on_instance on_thread on_work poll_pends push_high remove_call remove_group remove_set remove_thread remove_work set_backpressure set_cancel_delivered set_cancelled set_course set_do_not_enter set_do_not_suspend set_end set_event set_exited set_op_progress set_join set_task_event set_phase set_position set_register set_result set_saved_callee set_saved_own set_script set_stage set_started set_starting_published set_subtask_handle set_thread_handle set_trapped set_uninteresting set_memory_cell take_result with_handle with_thread_handle work_queued
+unfolding arrive set_cancel_asked add_call add_group add_set add_thread add_work call_made count_work free_handle free_thread_handle give_handle give_result give_thread_handle on_call on_instance on_thread on_work poll_pends push_high remove_call remove_group remove_set remove_thread remove_work set_backpressure set_cancel_delivered set_cancelled set_course set_do_not_enter set_do_not_suspend set_end set_event set_exited set_op_progress set_join set_task_event set_phase set_position set_register set_result set_saved_callee set_saved_own set_script set_stage set_started set_starting_published set_subtask_handle set_thread_handle set_trapped set_uninteresting set_memory_cell take_result with_handle with_thread_handle work_queued
 new_there a (MakeCall f e x g group words) s ok k is none there = grind (arith, nat_tests, get-insert)
 new_there a w s ok k is none there = absurd (grind (arith, nat_tests, get-change, get-remove))
 

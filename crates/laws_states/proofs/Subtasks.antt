@@ -1,5 +1,7 @@
 -- Each call that a handle names, or that an op under way is about, was made as a call: along the primitives of a step.
+use Rattle.machine_data.specs.declared.scenario.Version.{Version}
 use Rattle.laws_states.proofs.Primitives.{add_call, add_group, add_set, add_thread, add_work, after_primitive, Allowed, ap, arith, as_subtask, ByHandle, ByOp, call_made, CallsNamed, cancels_own, change, CloseSet, Core, count_work, free_handle, free_thread_handle, fresh, get-change, get-empty, get-remove, give_handle, give_result, give_thread_handle, given_names, giving, HasSubtask, OpProgress, IfSome, inl, inr, IsNew, le_trans, made_threads_primitive, made_works_primitive, MayCome, NameCall, Named, named_by, NameWork, nat_tests, none_named, on_call, on_instance, on_thread, on_work, op_came, OpenSet, option_and_then, poll_pends, push_high, refl, remove_call, remove_group, remove_set, remove_thread, remove_work, Scene, set_backpressure, set_cancel_delivered, set_cancelled, set_course, set_do_not_enter, set_do_not_suspend, set_end, set_event, set_exited, set_op_progress, set_join, set_task_event, set_phase, set_position, set_register, set_result, set_saved_callee, set_saved_own, set_script, set_stage, set_started, set_starting_published, set_subtask_handle, set_thread_handle, set_trapped, set_uninteresting, set_memory_cell, Some, Subtask, subtask_at, subtask_under_way, take_result, Thread, thread_came, ThreadAfter, UnnameCall, UnnameWork, WasCall, with_handle, with_thread_handle, Primitive, work_queued, WorksNamed, ℕ, ⊎_elim, ◌+◌, ◌≡◌, ◌≤◌, ◌⊎◌}
+unfoldable use Rattle.machine_data.specs.Write.{arrive, set_cancel_asked}
 
 -- a subtask of the thread, or a new one
 abbrev Known : Scene → Core → Subtask → Type 0
@@ -16,7 +18,7 @@ module _ (a : Scene) (s : Core) where
   given_named j nm i h sub ok e = ⊎_elim (λ e. inl e) (λ e. inr (rw e.0 at ok)) (given_names as_subtask s.handles j nm i h sub e)
 
   pub handle_named : (w : Primitive) → Allowed a w s → (i h : ℕ) (sub : Subtask) → subtask_at i h (after_primitive w s) ≡ Some sub → (subtask_at i h s ≡ Some sub) ⊎ NamedNow a s sub
-  unfolding on_thread add_group add_set add_work count_work free_handle free_thread_handle give_handle give_result give_thread_handle on_call on_instance on_work push_high remove_call remove_group remove_set remove_work remove_thread set_backpressure set_cancel_delivered set_cancelled set_course set_do_not_enter set_do_not_suspend set_end set_event set_exited set_op_progress set_join set_task_event set_phase set_position set_register set_result set_saved_callee set_saved_own set_script set_stage set_started set_starting_published set_subtask_handle set_thread_handle set_trapped set_uninteresting set_memory_cell take_result call_made add_call add_thread with_handle with_thread_handle work_queued poll_pends
+  unfolding arrive set_cancel_asked on_thread add_group add_set add_work count_work free_handle free_thread_handle give_handle give_result give_thread_handle on_call on_instance on_work push_high remove_call remove_group remove_set remove_work remove_thread set_backpressure set_cancel_delivered set_cancelled set_course set_do_not_enter set_do_not_suspend set_end set_event set_exited set_op_progress set_join set_task_event set_phase set_position set_register set_result set_saved_callee set_saved_own set_script set_stage set_started set_starting_published set_subtask_handle set_thread_handle set_trapped set_uninteresting set_memory_cell take_result call_made add_call add_thread with_handle with_thread_handle work_queued poll_pends
   handle_named (NameCall j k) ok i h sub e = given_named j (Named.Subtask (Subtask.Guest k)) i h sub (j, ok) e
   handle_named (NameWork j k) ok i h sub e = given_named j (Named.Subtask (Subtask.Host k)) i h sub (j, ok) e
   handle_named (OpenSet j) ok i h sub e = given_named j (Named.Set (s.made.sets + 1)) i h sub tt e
@@ -76,16 +78,16 @@ works_named_primitive a known w s ok more q = record {
   by_op = λ n j e. le_trans (⊎_elim (q.by_op n j) (λ g. work_known a s known more j (rw g.1.1 at (come_known a s n g.0 g.1.0))) (op_came (λ f. subtask_under_way f) (Subtask.Host j) w s ok n refl e)) (made_works_primitive a w s);
 }
 
-pub opening_named : (instances handle_limit capacity : ℕ) → CallsNamed (fresh instances handle_limit capacity)
+pub opening_named : (rules : Version) (instances handle_limit capacity : ℕ) → CallsNamed (fresh rules instances handle_limit capacity)
 unfolding fresh
-opening_named instances handle_limit capacity = record {
+opening_named rules instances handle_limit capacity = record {
   by_handle = λ i h k e. let n = none_named instances i h in absurd (cc);
   by_op = λ n k e. let o = get-empty {X = Thread} n in absurd (cc);
 }
 
-pub opening_works_named : (instances handle_limit capacity : ℕ) → WorksNamed (fresh instances handle_limit capacity)
+pub opening_works_named : (rules : Version) (instances handle_limit capacity : ℕ) → WorksNamed (fresh rules instances handle_limit capacity)
 unfolding fresh
-opening_works_named instances handle_limit capacity = record {
+opening_works_named rules instances handle_limit capacity = record {
   by_handle = λ i h j e. let n = none_named instances i h in absurd (cc);
   by_op = λ n j e. let o = get-empty {X = Thread} n in absurd (cc);
 }

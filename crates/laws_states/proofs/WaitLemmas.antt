@@ -1,5 +1,6 @@
 -- Of which instance the sets are that threads wait on, along the primitives of a step.
 use Rattle.laws_states.proofs.Primitives.{add_call, add_group, add_set, add_thread, add_work, after_primitive, Allowed, any_found, ap, arith, AwaitsEvent, Blocks, by_number, ByDelivery, BySetHandle, ByWait, call_made, Came, came_primitive, CloseSet, Comes, ComesAgain, Core, count_work, false, FindsEvent, free_handle, free_thread_handle, get, get-insert, get-remove, give_handle, give_result, give_thread_handle, has_waiters, HasSet, Holds, op_progress_of, OpProgress, IfSome, inl, inr, instance_of, is_at_wait, is_some, is_there, is_wait, IsLaid, IsOf, IsRunner, JoinsNamed, keeps_set, Mark, MayClose, MayCome, MayMove, MayPut, MayStand, MayYield, Moved, nat_tests, None, on_call, on_instance, on_thread, on_work, op_came, op_in, OpenSet, Option, option_and_then, option_map, option_map_or, Place, place_of, poll_pends, push_high, refl, remove_call, remove_group, remove_set, remove_thread, remove_work, Runs, Scene, set_backpressure, set_cancel_delivered, set_cancelled, set_course, set_do_not_enter, set_do_not_suspend, set_end, set_event, set_exited, set_op_progress, set_join, set_of_op, set_of_place, set_of_why, set_task_event, set_phase, set_position, set_register, set_result, set_saved_callee, set_saved_own, set_script, set_stage, set_started, set_starting_published, set_subtask_handle, set_thread_handle, set_trapped, set_uninteresting, set_memory_cell, SetsNamed, Shifts, Some, Suspends, take_result, Thread, true, Turn, Turned, Turns, Uncovers, Waits, WaitsAgain, WaitsAtHome, WaitsPlaced, Why, with_handle, with_thread_handle, Primitive, work_queued, Yields, ℕ, ⊎_elim, ◌≡◌, ◌≤◌, ◌⊎◌}
+unfoldable use Rattle.machine_data.specs.Write.{arrive, set_cancel_asked}
 
 abbrev pub set_at_place : Option Place → Option ℕ
 set_at_place o = option_and_then (λ p. set_of_place p) o
@@ -36,7 +37,7 @@ unwaited_runs x n s none far at = go (get s.threads n) refl far at
 
 of_primitive : (i x : ℕ) (w : Primitive) (s : Core) → ((j h : ℕ) → w ≡ CloseSet j h x → ⊥) → (is_some (get s.sets x) ≡ true → x ≤ s.made.sets) →
     IsOf i x s → IsOf i x (after_primitive w s)
-unfolding on_thread add_group add_set add_work count_work free_handle free_thread_handle give_handle give_result give_thread_handle on_call on_instance on_work push_high remove_call remove_group remove_set remove_work remove_thread set_backpressure set_cancel_delivered set_cancelled set_course set_do_not_enter set_do_not_suspend set_end set_event set_exited set_op_progress set_join set_task_event set_phase set_position set_register set_result set_saved_callee set_saved_own set_script set_stage set_started set_starting_published set_subtask_handle set_thread_handle set_trapped set_uninteresting set_memory_cell take_result call_made add_call add_thread with_handle with_thread_handle work_queued poll_pends
+unfolding arrive set_cancel_asked on_thread add_group add_set add_work count_work free_handle free_thread_handle give_handle give_result give_thread_handle on_call on_instance on_work push_high remove_call remove_group remove_set remove_work remove_thread set_backpressure set_cancel_delivered set_cancelled set_course set_do_not_enter set_do_not_suspend set_end set_event set_exited set_op_progress set_join set_task_event set_phase set_position set_register set_result set_saved_callee set_saved_own set_script set_stage set_started set_starting_published set_subtask_handle set_thread_handle set_trapped set_uninteresting set_memory_cell take_result call_made add_call add_thread with_handle with_thread_handle work_queued poll_pends
 of_primitive i x (OpenSet j) s other low h = grind (arith, nat_tests, get-insert)
 of_primitive i x (CloseSet j g y) s other low h =
     by_number x y _ (λ e. absurd (other j g (rw e refl))) (λ apart. grind (arith, nat_tests, get-remove))

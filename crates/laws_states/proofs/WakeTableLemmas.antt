@@ -448,20 +448,38 @@ displaced_rule x n s placed waits (Some m) is =
     ready_there : (m : ℕ) (s : Core) → HasPlace m s → s.queues.switch ≡ Some m → place_of m s ≡ Some (Place.Ready Mark.Switch (why_of m s))
     ready_there m s h is = let at = h.switch in grind (arith, nat_tests, at, is)
 
+displaced_progress : (n : ℕ) (o : Option ℕ) (s : Core) → op_progress_of n (displaced o s) ≡ op_progress_of n s
+unfolding push_high_first set_place on_thread
+displaced_progress n None s = refl
+displaced_progress n (Some m) s = grind (arith, nat_tests, get-change)
+
 pub cancel_takes : CancelTakes
 unfolding CancelTakes put_switch set_switch woken waiters ready_members
-cancel_takes x n s placed waits =
-    let d = displaced_rule x n s placed waits s.queues.switch refl in
-    let t = displaced s.queues.switch s in
-    let w : is_waiter x n t ≡ true = ap (λ (o : Option Place). option_map_or (is_waiting_on x) o false) d.1 ∙ waits in
-    let at = waiting_of x (place_of n t) w in
-    let r = place_rule x n (Place.Ready Mark.Switch (Why.Delivery Delivery.Cancel)) Same Fewer t (ap (λ (o : Option Place). is_some o) at.1)
-    (sym (woken_at x n t ∙ ap (λ (o : Option Place). woken_place x o (op_progress_of n t)) at.1)) (w, refl) in
-    let both = then_threads Same Same Fewer d.0 r in
-    switched both
+cancel_takes = (
+  λ x n s placed waits.
+      let d = displaced_rule x n s placed waits s.queues.switch refl in
+      let t = displaced s.queues.switch s in
+      let w : is_waiter x n t ≡ true = ap (λ (o : Option Place). option_map_or (is_waiting_on x) o false) d.1 ∙ waits in
+      let at = waiting_of x (place_of n t) w in
+      let r = place_rule x n (Place.Ready Mark.Switch (Why.Delivery Delivery.Cancel)) Same Fewer t (ap (λ (o : Option Place). is_some o) at.1)
+      (sym (woken_at x n t ∙ ap (λ (o : Option Place). woken_place x o (op_progress_of n t)) at.1)) (w, refl) in
+      given x n s (then_threads Same Same Fewer d.0 r),
+  λ x n s placed waits inside.
+      let d = displaced_rule x n s placed waits s.queues.switch refl in
+      let t = displaced s.queues.switch s in
+      let w : is_waiter x n t ≡ true = ap (λ (o : Option Place). option_map_or (is_waiting_on x) o false) d.1 ∙ waits in
+      let at = waiting_of x (place_of n t) w in
+      let still : is_inside_wait x (op_progress_of n t) ≡ true = ap (λ h. is_inside_wait x h) (displaced_progress n s.queues.switch s) ∙ inside in
+      let r = place_rule x n (Place.Ready Mark.Switch Why.Resumption) More Fewer t (ap (λ (o : Option Place). is_some o) at.1)
+      (woken_at x n t ∙ ap (λ (o : Option Place). woken_place x o (op_progress_of n t)) at.1, still) (w, refl) in
+      resumed x n s (then_threads Same More Fewer d.0 r),
+)
   where
-    switched : {u : Core} → WakeRow x Same Same Fewer s u → WakeRow x Same Same Fewer s (set_switch (Some n) u)
-    switched r = record { members = r.members; threads = r.threads; waiters = r.waiters }
+    given : (x n : ℕ) (s : Core) {u : Core} → WakeRow x Same Same Fewer s u → WakeRow x Same Same Fewer s (set_switch (Some n) u)
+    given x n s r = record { members = r.members; threads = r.threads; waiters = r.waiters }
+
+    resumed : (x n : ℕ) (s : Core) {u : Core} → WakeRow x Same More Fewer s u → WakeRow x Same More Fewer s (set_switch (Some n) u)
+    resumed x n s r = record { members = r.members; threads = r.threads; waiters = r.waiters }
 
 pub delivery_held : DeliveryHeld
 unfolding DeliveryHeld

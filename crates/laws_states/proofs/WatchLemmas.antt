@@ -1,5 +1,6 @@
 -- A subtask that an op cancels is in the thread's own set, along the primitives of a step.
 use Rattle.laws_states.proofs.Primitives.{add_call, add_group, add_set, add_thread, add_work, AddGroup, after_primitive, Allowed, arith, Bool, by_number, call_made, CallsNamed, cancelled_by, CancelsWatched, Core, count_work, false, free_handle, free_thread_handle, get-change, get-insert, get-remove, give_handle, give_result, give_thread_handle, op_progress_of, OpProgress, inl, inr, Join, join_of, MakeCall, MayCome, MayJoin, nat_tests, on_call, on_instance, on_thread, on_work, op_came, poll_pends, push_high, Queues, QueueWork, refl, remove_call, remove_group, remove_set, remove_thread, remove_work, Scene, set_backpressure, set_cancel_delivered, set_cancelled, set_course, set_do_not_enter, set_do_not_suspend, set_end, set_event, set_exited, set_op_progress, set_join, set_task_event, set_phase, set_position, set_register, set_result, set_saved_callee, set_saved_own, set_script, set_stage, set_started, set_starting_published, set_subtask_handle, set_thread_handle, set_trapped, set_uninteresting, set_memory_cell, SetCallJoin, SetWorkJoin, Some, Subtask, subtask_under_way, take_result, true, watches, with_handle, with_thread_handle, Primitive, work_queued, WorksNamed, ℕ, ⊎_elim, ◌≡◌, ◌⊎◌}
+unfoldable use Rattle.machine_data.specs.Write.{arrive, set_cancel_asked}
 
 -- who watches the subtask: it is gone, or in the thread's own set
 watches_is : (n : ℕ) (sub : Subtask) (s : Core) → watches n sub s ≡ true → (join_of sub s ≡ Join.Watched n) ⊎ ((m : ℕ) → watches m sub s ≡ true × (join_of sub s ≡ Join.Nowhere))
@@ -14,7 +15,7 @@ is_joining (QueueWork f host group) = true
 is_joining _ = false
 
 watches_kept : (w : Primitive) (s : Core) (n : ℕ) (sub : Subtask) → is_joining w ≡ false → watches n sub s ≡ true → watches n sub (after_primitive w s) ≡ true
-unfolding add_call add_group add_set add_thread add_work count_work free_handle free_thread_handle give_handle give_result give_thread_handle on_call on_instance on_thread on_work push_high remove_call remove_group remove_set remove_thread remove_work set_backpressure set_cancel_delivered set_cancelled set_course set_do_not_enter set_do_not_suspend set_end set_event set_exited set_op_progress set_join set_task_event set_phase set_position set_register set_result set_saved_callee set_saved_own set_script set_stage set_started set_starting_published set_subtask_handle set_thread_handle set_trapped set_uninteresting set_memory_cell take_result call_made with_handle with_thread_handle work_queued poll_pends
+unfolding arrive set_cancel_asked add_call add_group add_set add_thread add_work count_work free_handle free_thread_handle give_handle give_result give_thread_handle on_call on_instance on_thread on_work push_high remove_call remove_group remove_set remove_thread remove_work set_backpressure set_cancel_delivered set_cancelled set_course set_do_not_enter set_do_not_suspend set_end set_event set_exited set_op_progress set_join set_task_event set_phase set_position set_register set_result set_saved_callee set_saved_own set_script set_stage set_started set_starting_published set_subtask_handle set_thread_handle set_trapped set_uninteresting set_memory_cell take_result call_made with_handle with_thread_handle work_queued poll_pends
 watches_kept AddGroup s n (Subtask.Guest k) other h = h
 watches_kept AddGroup s n (Subtask.Host i) other h = h
 watches_kept w s n (Subtask.Guest k) other h = first_of (assumption, grind (arith, nat_tests, get-change, get-remove))

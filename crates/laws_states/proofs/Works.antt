@@ -1,4 +1,5 @@
 -- What host works come to along the primitives of a step: their ends, and what they have to hand out.
+use Rattle.machine_data.specs.declared.scenario.Version.{Version}
 use Rattle.laws_states.proofs.Primitives.{after_primitive, Allowed, along, ap, arith, base_at, Bool, Core, course_value, Doing, doing_of, false, fresh, get, get-empty, has_end, host_status, if◌then◌else◌, inl, inr, is_aborted, is_async_work, is_finishing, is_late, is_some, is_stage_ended, is_sync_work, Label, later_after, later_same, LaterBy, le_refl, le_trans, LoopLabel, made_works_primitive, MayAbort, MayBeAborted, None, of_base, Op, Option, option_and_then, refl, Scene, scene_as, Setting, Some, Stage, stand_primitive, State, Status, true, Turn, undelivered_end, WalkedAs, Primitive, Work, work_came, WorkAfter, WorkCame, WorksStand, ℕ, ⊎_elim, ◌&&◌, ◌||◌, ◌≡◌, ◌≤◌, ◌⊎◌}
 
 -- What holds of a work: an end where its stage says so; an event of its own end, once it has ended; and, where S says that none is
@@ -88,9 +89,9 @@ works_primitive {S = S} {a = a} unsync w s ok q = record {
     never : (i : ℕ) → S → (u : Doing) → doing_of i s ≡ Some u → is_sync_work u.caller ≡ true → MayAbort a i → ⊥
     never i y u e sync may = let n = unsync y i may in let other = n.other in let was = q.was i n.made in grind arith
 
-pub opening_works : {S : Type 0} (instances handle_limit capacity : ℕ) → WorksHold S (fresh instances handle_limit capacity)
+pub opening_works : {S : Type 0} (rules : Version) (instances handle_limit capacity : ℕ) → WorksHold S (fresh rules instances handle_limit capacity)
 unfolding fresh
-opening_works instances handle_limit capacity = record {
+opening_works rules instances handle_limit capacity = record {
   stand = record {
     low = λ i. refl;
     number = λ i there. let e = get-empty {X = Work} i in absurd (cc);

@@ -1,6 +1,7 @@
 -- What each primitive of a step does to a host work, and that works have their entries.
 use Rattle.laws_states.proofs.Rules.{[], add_call, add_group, add_set, add_thread, add_work, after_placing, after_primitive, Allowed, ap, arith, Bool, call_made, change, change-change_same, Core, count_work, Course, course_of, course_value, EndWork, Entry, false, FinishWork, free_handle, free_thread_handle, get, get-change, give_handle, give_result, give_thread_handle, has_end, host_status, HostDef, inl, inr, is_aborted, is_async_work, is_finishing, is_host_of, is_late, is_push_of, is_queued, is_some, is_stage_ended, is_stage_live, Label, List, LoopLabel, Mark, MayAbort, MayFinish, MayRemoveWork, nat_tests, new_work, next_entry, next_work, None, on_call, on_instance, on_thread, on_work, one_if, Option, option_map, or_high, Pend, Phase, Places, placing_works, poll_pends, popped, push_high, QueueWork, refl, remove_call, remove_group, remove_set, remove_thread, remove_work, RemoveWork, rest_of, Scene, set_backpressure, set_cancel_delivered, set_cancelled, set_course, set_do_not_enter, set_do_not_suspend, set_end, set_event, set_exited, set_high, set_op_progress, set_join, set_task_event, set_phase, set_position, set_register, set_result, set_saved_callee, set_saved_own, set_script, set_stage, set_started, set_starting_published, set_subtask_handle, set_thread_handle, set_trapped, set_uninteresting, set_memory_cell, SetPhase, Some, Stage, stage_of, stands, Status, sym, take_result, TakeHost, TakePush, TakeWorkEvent, true, unqueued, unqueued_works, with_handle, with_thread_handle, Withdraw, Primitive, Work, work_caller_of, work_entries, work_queued, WorkCaller, ℕ, ⊎_elim, ◌++◌, ◌+◌, ◌∙◌, ◌∷◌, ◌≡◌, ◌≤◌, ◌⊎◌}
 use Rattle.laws_states.proofs.{Basics.no_way, CountLemmas.made_works_primitive, EachLemmas.after_remove, EachLemmas.at_change, EachLemmas.at_insert, PolledWorks.polled_is_live}
+unfoldable use Rattle.machine_data.specs.Write.{arrive, set_cancel_asked}
 
 -- ---- What a work does
 
@@ -132,7 +133,7 @@ module _ {S : Type 0} (a : Scene) (s : Core) (q : WorksStand S s)
       (λ e. let r = async e in grind arith) own) i))
 
   pub work_came : (w : Primitive) → Allowed a w s → (i : ℕ) → WorkAfter w i
-  unfolding add_call add_group add_set add_thread add_work count_work free_handle free_thread_handle give_handle give_result give_thread_handle on_call on_instance on_thread on_work push_high remove_call remove_group remove_set remove_thread remove_work set_backpressure set_cancel_delivered set_cancelled set_course set_do_not_enter set_do_not_suspend set_end set_event set_exited set_op_progress set_join set_task_event set_phase set_position set_register set_result set_saved_callee set_saved_own set_script set_stage set_started set_starting_published set_subtask_handle set_thread_handle set_trapped set_uninteresting set_memory_cell take_result call_made with_handle with_thread_handle work_queued poll_pends
+  unfolding arrive set_cancel_asked add_call add_group add_set add_thread add_work count_work free_handle free_thread_handle give_handle give_result give_thread_handle on_call on_instance on_thread on_work push_high remove_call remove_group remove_set remove_thread remove_work set_backpressure set_cancel_delivered set_cancelled set_course set_do_not_enter set_do_not_suspend set_end set_event set_exited set_op_progress set_join set_task_event set_phase set_position set_register set_result set_saved_callee set_saved_own set_script set_stage set_started set_starting_published set_subtask_handle set_thread_handle set_trapped set_uninteresting set_memory_cell take_result call_made with_handle with_thread_handle work_queued poll_pends
   work_came (Places p) ok i = Same refl (same_standing i s.queues.high (after_placing p s).queues.high (placing_works a p s ok).high)
   work_came (Withdraw j) ok i = Same refl (same_standing i s.queues.high (unqueued j s).queues.high (unqueued_works j s).high)
   work_came (QueueWork f host group) ok i =
@@ -167,7 +168,7 @@ module _ {S : Type 0} (a : Scene) (s : Core) (q : WorksStand S s)
   work_came w ok i = Same (grind (arith, nat_tests, get-change)) refl
 
   low_after : (w : Primitive) → Allowed a w s → (i : ℕ) → Standing i (after_primitive w s).queues.low ≡ (0, 0)
-  unfolding add_call add_group add_set add_thread add_work count_work free_handle free_thread_handle give_handle give_result give_thread_handle on_call on_instance on_thread on_work push_high remove_call remove_group remove_set remove_thread remove_work set_backpressure set_cancel_delivered set_cancelled set_course set_do_not_enter set_do_not_suspend set_end set_event set_exited set_op_progress set_join set_task_event set_phase set_position set_register set_result set_saved_callee set_saved_own set_script set_stage set_started set_starting_published set_subtask_handle set_thread_handle set_trapped set_uninteresting set_memory_cell take_result call_made with_handle with_thread_handle work_queued poll_pends
+  unfolding arrive set_cancel_asked add_call add_group add_set add_thread add_work count_work free_handle free_thread_handle give_handle give_result give_thread_handle on_call on_instance on_thread on_work push_high remove_call remove_group remove_set remove_thread remove_work set_backpressure set_cancel_delivered set_cancelled set_course set_do_not_enter set_do_not_suspend set_end set_event set_exited set_op_progress set_join set_task_event set_phase set_position set_register set_result set_saved_callee set_saved_own set_script set_stage set_started set_starting_published set_subtask_handle set_thread_handle set_trapped set_uninteresting set_memory_cell take_result call_made with_handle with_thread_handle work_queued poll_pends
   low_after (Places p) ok i = same_standing i _ _ (placing_works a p s ok).low ∙ q.low i
   low_after (Withdraw j) ok i = same_standing i _ _ (unqueued_works j s).low ∙ q.low i
   low_after (TakePush m j) ok i = ap (Standing i) (taken m (Entry.Push j) s ok.0 refl q.low).1 ∙ q.low i

@@ -40,7 +40,7 @@ ends_handed_as_told x s l t step k e out =
 reached_works : {x : Setting} {s : State} → Reached x s → WorksHold ⊥ s.core
 reached_works {x = x} r = reached_keeps r (λ s. WorksHold ⊥ s.core)
     (λ s l t step h. (works_go x s l t (step_walks x s l t step) (λ no. absurd no) h).holds)
-    (opening_works r.instances r.handle_limit r.capacity)
+    (opening_works r.version r.instances r.handle_limit r.capacity)
 
 keeps : (x : Setting) (s : State) (l : Label) (t : State) → Reached x s → Step x s l t → (sub : Subtask) → Keeps s.core t.core sub
 keeps x s l t r step (Subtask.Guest k) =

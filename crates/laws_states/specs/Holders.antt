@@ -1,6 +1,7 @@
 -- At most one holding entry of an instance runs at a time.
 use Rattle.std.specs.Prelude.{List, ℕ, ◌<◌}
 use Rattle.laws_states.specs.Settings.{CalleesAre}
+use Rattle.machine_data.specs.declared.scenario.Version.{Version}
 use Rattle.machine_data.specs.declared.label.Label.{Label}
 use Rattle.machine_data.specs.Core.{MainPlace, Scripted, State}
 use Rattle.machine_rules.specs.History.{history}
@@ -16,6 +17,6 @@ pub record CalleesExist (x : Setting) (instances : ℕ) : Type 0 where
 -- in each run of a main that is a script, from an opening state
 abbrev pub RunsHoldOne : Type 0
 RunsHoldOne =
-    (x : Setting) (instances handle_limit capacity : ℕ) (p : MainPlace) (ls : List Label) (t : State) → CalleesExist x instances →
-    (run : Run x (opening instances handle_limit capacity (Scripted p)) ls t) →
-    OneHolder (history x (opening instances handle_limit capacity (Scripted p)) ls t run)
+    (x : Setting) (v : Version) (instances handle_limit capacity : ℕ) (p : MainPlace) (ls : List Label) (t : State) → CalleesExist x instances →
+    (run : Run x (opening v instances handle_limit capacity (Scripted p)) ls t) →
+    OneHolder (history x (opening v instances handle_limit capacity (Scripted p)) ls t run)

@@ -1,4 +1,5 @@
 -- A state in order: what is so of every opening state and kept by every step, whatever the state was reached by.
+use Rattle.machine_data.specs.declared.scenario.Version.{Version}
 use Rattle.machine_data.specs.declared.records.Stage.TheVariants as stage
 use Rattle.machine_data.specs.declared.records.Entry.TheVariants as entry
 use Rattle.machine_data.specs.declared.records.Work.{Work}
@@ -462,8 +463,8 @@ InOrder c s = InOrderAs (ops_of c s.core) c s
 
 -- each opening state is in order
 unfoldable pub OpeningInOrder : Type 0
-OpeningInOrder = (c : Component) → CodesInCallbacks c → (instances handle_limit capacity : ℕ) (main : Main) →
-    InOrder c (opening instances handle_limit capacity main)
+OpeningInOrder = (c : Component) → CodesInCallbacks c → (v : Version) (instances handle_limit capacity : ℕ) (main : Main) →
+    InOrder c (opening v instances handle_limit capacity main)
 
 -- each step from a state in order leads to one
 abbrev pub StepInOrder : Type 0

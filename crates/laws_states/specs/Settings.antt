@@ -1,6 +1,7 @@
 -- What is asked of settings: as the grammar of scenarios has it, the ops that end an activation are in the scripts of callback
 -- exports alone.
 use Rattle.std.specs.Prelude.{List, Some, false, slice_get, ℕ, ◌≡◌}
+use Rattle.machine_data.specs.declared.scenario.Version.{Version}
 use Rattle.machine_data.specs.declared.component.Callee.{Callee}
 use Rattle.machine_data.specs.declared.component.Component.{Component}
 use Rattle.machine_data.specs.declared.component.ExportDef.{ExportDef}
@@ -34,9 +35,10 @@ pub record CalleesAre (x : Setting) (P : Callee → Type 0) : Type 0 where
 -- The state is reached from an opening state, under scripts that end activations in callbacks alone.
 pub record Reached (x : Setting) (s : State) : Type 0 where
   pub scripts : CodesInCallbacks x.component
+  pub version : Version
   pub instances : ℕ
   pub handle_limit : ℕ
   pub capacity : ℕ
   pub main : Main
   pub labels : List Label
-  pub run : Run x (opening instances handle_limit capacity main) labels s
+  pub run : Run x (opening version instances handle_limit capacity main) labels s

@@ -141,10 +141,13 @@ BeginsToWait = (x n : ℕ) (by_callback : Bool) (s : Core) → IsApartFrom x n s
 unfoldable pub CallbackFinds : Type 0
 CallbackFinds = (x n : ℕ) (s : Core) → IsApartFrom x n s → WakeRow x Same More Same s (put_high n (why.Delivery (delivery.Set x)) s)
 
--- a cancel takes a waiter
+-- a cancel takes a waiter: a callback, which is given the cancel, or a thread that is inside a wait on the set, which counts as woken then
 unfoldable pub CancelTakes : Type 0
-CancelTakes = (x n : ℕ) (s : Core) → Placed s → is_waiter x n s ≡ true →
-    WakeRow x Same Same Fewer s (put_switch n (why.Delivery delivery.Cancel) s)
+CancelTakes =
+    ((x n : ℕ) (s : Core) → Placed s → is_waiter x n s ≡ true →
+    WakeRow x Same Same Fewer s (put_switch n (why.Delivery delivery.Cancel) s)) ×
+    ((x n : ℕ) (s : Core) → Placed s → is_waiter x n s ≡ true → is_inside_wait x (op_progress_of n s) ≡ true →
+    WakeRow x Same More Fewer s (put_switch n why.Resumption s))
 
 -- a delivery is held or released
 unfoldable pub DeliveryHeld : Type 0

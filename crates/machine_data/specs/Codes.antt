@@ -9,6 +9,7 @@ use Rattle.machine_data.specs.declared.records.Named.{Named}
 use Rattle.machine_data.specs.declared.records.Set.{Set}
 use Rattle.machine_data.specs.declared.records.Thread.{Thread}
 use Rattle.machine_data.specs.declared.records.Work.{Work}
+use Rattle.machine_data.specs.declared.scenario.Version.{Version}
 use Rattle.machine_data.specs.contracts.records.Call as call
 use Rattle.machine_data.specs.contracts.records.Entry as entry
 use Rattle.machine_data.specs.contracts.records.Instance as instance
@@ -17,6 +18,7 @@ use Rattle.machine_data.specs.contracts.records.Named as named
 use Rattle.machine_data.specs.contracts.records.Set as set
 use Rattle.machine_data.specs.contracts.records.Thread as thread
 use Rattle.machine_data.specs.contracts.records.Work as work
+use Rattle.machine_data.specs.contracts.scenario.Version as version
 use Rattle.machine_data.specs.Maps.{Records, records_code}
 use Rattle.machine_data.specs.Core.{NameTable, Queues, Core}
 
@@ -46,20 +48,21 @@ maps_code =
 
 -- the rest of a core
 abbrev Rest : Type 0
-Rest = Queues × (Records ℕ × (List ℕ × (Bool × (ℕ × (ℕ × MadeCounts)))))
+Rest = Queues × (Records ℕ × (List ℕ × (Bool × (ℕ × (ℕ × (MadeCounts × (Version × ℕ)))))))
 
 rest_code : Coded Rest
 rest_code =
     coded× queues_code
     (coded× (records_code coded_ℕ)
-    (coded× (coded_list coded_ℕ) (coded× coded_bool (coded× coded_ℕ (coded× coded_ℕ made.the_row.coded)))))
+    (coded× (coded_list coded_ℕ) (coded× coded_bool (coded× coded_ℕ (coded× coded_ℕ
+    (coded× made.the_row.coded (coded× version.the_row.coded coded_ℕ)))))))
 
 pub core_code : Coded Core
 core_code =
     code_by (Maps × Rest) (coded× maps_code rest_code)
     (λ s. (
       (s.calls, (s.threads, (s.callers, (s.works, (s.sets, (s.instances, (s.handles, s.thread_handles))))))),
-      (s.queues, (s.results, (s.groups, (s.trapped, (s.handle_limit, (s.capacity, s.made)))))),
+      (s.queues, (s.results, (s.groups, (s.trapped, (s.handle_limit, (s.capacity, (s.made, (s.version, s.arrivals)))))))),
     ))
     (λ p. record {
       calls = p.0.0;
@@ -76,6 +79,8 @@ core_code =
       trapped = p.1.1.1.1.0;
       handle_limit = p.1.1.1.1.1.0;
       capacity = p.1.1.1.1.1.1.0;
-      made = p.1.1.1.1.1.1.1;
+      made = p.1.1.1.1.1.1.1.0;
+      version = p.1.1.1.1.1.1.1.1.0;
+      arrivals = p.1.1.1.1.1.1.1.1.1;
     })
     (λ _. refl)

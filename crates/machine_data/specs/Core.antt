@@ -10,6 +10,7 @@ use Rattle.machine_data.specs.declared.records.Named.{Named}
 use Rattle.machine_data.specs.declared.records.Entry.{Entry}
 use Rattle.machine_data.specs.declared.records.MadeCounts.{MadeCounts}
 use Rattle.machine_data.specs.declared.records.Turn.{Turn}
+use Rattle.machine_data.specs.declared.scenario.Version.{Version}
 use Rattle.machine_data.specs.Maps.{Records, empty, insert}
 
 -- The handles of one instance: what each live one names, and the freed ones, the last first.
@@ -25,6 +26,8 @@ pub record Queues : Type 0 where
 
 -- The part of a state that a store holds.
 pub record Core : Type 0 where
+  -- by which rules it runs
+  pub version : Version
   -- named by their first threads
   pub calls : Records Call
   pub threads : Records Thread
@@ -47,6 +50,8 @@ pub record Core : Type 0 where
   -- how many entries the table has room for
   pub capacity : ℕ
   pub made : MadeCounts
+  -- in version 2, how often a thread has begun to wait or to be held
+  pub arrivals : ℕ
 
 -- What a start of main resulted in.
 pub data Started : Type 0 where
@@ -65,12 +70,7 @@ pub data Main : Type 0 where
   Scripted : (place : MainPlace) → Main
   Unscripted : Main
 
--- Which rules a run is under.
-pub data Version : Type 0 where
-  One : Version
-
 pub record State : Type 0 where
-  pub version : Version
   pub core : Core
   pub main : Main
   pub turn : Turn
@@ -95,8 +95,9 @@ filled x ℕ.zero = empty
 filled x (ℕ.suc n) = insert (filled x n) n x
 
 -- the core of this many instances, in which nothing was made
-unfoldable pub fresh : (instances handle_limit capacity : ℕ) → Core
-fresh instances handle_limit capacity = record {
+unfoldable pub fresh : Version → (instances handle_limit capacity : ℕ) → Core
+fresh v instances handle_limit capacity = record {
+  version = v;
   calls = empty;
   threads = empty;
   callers = empty;
@@ -112,4 +113,5 @@ fresh instances handle_limit capacity = record {
   handle_limit = handle_limit;
   capacity = capacity;
   made = nothing_made;
+  arrivals = 0;
 }

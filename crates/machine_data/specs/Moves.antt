@@ -25,8 +25,8 @@ use Rattle.machine_data.specs.declared.records.Why.{Why}
 use Rattle.machine_data.specs.declared.records.Why.TheVariants as why
 use Rattle.machine_data.specs.Maps.{get}
 use Rattle.machine_data.specs.Core.{Core}
-use Rattle.machine_data.specs.Read.{place_of, task_of, instance_of, is_explicit, thread_handle_of, callers_of, foot_of, task_event_of, may_not_suspend, event_of, join_of, blocked_on, waits_by_callback, is_waiter, has_waiter, is_ready_member, has_ready_member, has_thread, undelivered_end, call_group, held_why, is_entry_of, first_in}
-use Rattle.machine_data.specs.Write.{set_place, set_callers, set_switch, push_high, push_high_first, push_low, set_high, set_low, set_event, set_task_event, set_cancel_delivered, set_exited, set_uninteresting, set_end, remove_thread, remove_call, remove_group, free_thread_handle}
+use Rattle.machine_data.specs.Read.{blocked_on, call_group, callers_of, event_of, first_in, foot_of, has_ready_member, has_thread, has_waiter, held_why, instance_of, is_async_lifted, is_entry_of, is_explicit, is_ready_member, is_second, is_waiter, join_of, kind_of, may_not_suspend, place_of, task_event_of, task_of, thread_handle_of, undelivered_end, waits_by_callback}
+use Rattle.machine_data.specs.Write.{arrive, set_place, set_callers, set_switch, push_high, push_high_first, push_low, set_high, set_low, set_event, set_task_event, set_cancel_delivered, set_exited, set_uninteresting, set_end, remove_thread, remove_call, remove_group, free_thread_handle}
 
 -- ---- Put
 
@@ -140,6 +140,10 @@ stopped f s = passed_on s.queues.switch (callers_of f s) (set_callers f [] s)
 abbrev pub stopped_at : ℕ → Place → Core → Core
 stopped_at n p s = set_place n p (stopped (foot_of n s) s)
 
+-- the same, and n comes after all that wait or are held
+abbrev pub stopped_last : ℕ → Place → Core → Core
+stopped_last n p s = set_place n p (arrive n (stopped (foot_of n s) s))
+
 -- ---- Wake and Publish
 
 -- the waiter gets its entry at high
@@ -187,15 +191,19 @@ pub data PickedEvent : Type 0 where
   PickedMember : (subtask : Subtask) → PickedEvent
   NothingPicked : PickedEvent
 
--- the task event, Cancelled only by callback
+-- the task event, Cancelled only for what may take it
 abbrev pub picked_task_event : Bool → Option TaskEvent → Option TaskEvent
-picked_task_event by_callback None = None
-picked_task_event by_callback (Some own.None) = Some own.None
+picked_task_event cancellable None = None
+picked_task_event cancellable (Some own.None) = Some own.None
 picked_task_event true (Some own.Cancelled) = Some own.Cancelled
 picked_task_event false (Some own.Cancelled) = None
 
 abbrev pub picked_task_event_of : Bool → ℕ → Core → Option TaskEvent
-picked_task_event_of by_callback k s = picked_task_event by_callback (task_event_of k s)
+picked_task_event_of cancellable k s = picked_task_event cancellable (task_event_of k s)
+
+-- in version 2 a `wait` in an async-lifted task may take Cancelled
+abbrev pub waits_cancellable : ℕ → Core → Bool
+waits_cancellable k s = is_second s.version && is_async_lifted (kind_of k s)
 
 -- the chosen one, where it is a ready member of the set
 abbrev pub picked_member : ℕ → Option Subtask → Core → Option PickedEvent
@@ -208,7 +216,7 @@ picked_event_after_own None x chosen s = if has_ready_member x s then picked_mem
 
 -- the task event, else the event of the chosen ready member of the set, else nothing; None if the choice isn't lawful
 unfoldable pub picked_event : Bool → ℕ → ℕ → Option Subtask → Core → Option PickedEvent
-picked_event by_callback k x chosen s = picked_event_after_own (picked_task_event_of by_callback k s) x chosen s
+picked_event cancellable k x chosen s = picked_event_after_own (picked_task_event_of cancellable k s) x chosen s
 
 -- the task event alone, by callback
 abbrev pub own_or_nothing : Option TaskEvent → PickedEvent

@@ -4,6 +4,8 @@ use Rattle.std.specs.List.{list_any}
 use Rattle.std.specs.Option.{option_map_or}
 use Rattle.machine_data.specs.declared.component.Callee.{Callee}
 use Rattle.machine_data.specs.declared.component.ExportKind.{ExportKind}
+use Rattle.machine_data.specs.declared.scenario.Version.TheVariants as version
+use Rattle.machine_data.specs.declared.scenario.Version.{Version}
 use Rattle.machine_data.specs.declared.component.ExportKind.TheVariants as kind
 use Rattle.machine_data.specs.declared.component.HostDef.{HostDef}
 use Rattle.machine_data.specs.declared.component.HostDef.TheVariants as host_def
@@ -117,6 +119,9 @@ was_started k s = option_map_or (λ c. c.started) (get s.calls k) false
 abbrev pub task_event_of : ℕ → Core → Option TaskEvent
 task_event_of k s = option_and_then (λ c. c.task_event) (get s.calls k)
 
+abbrev pub cancel_was_asked : ℕ → Core → Bool
+cancel_was_asked k s = option_map_or (λ c. c.cancel_asked) (get s.calls k) false
+
 abbrev pub cancel_was_delivered : ℕ → Core → Bool
 cancel_was_delivered k s = option_map_or (λ c. c.cancel_delivered) (get s.calls k) false
 
@@ -146,6 +151,15 @@ abbrev pub is_async_lifted : ExportKind → Bool
 is_async_lifted kind.Stackful = true
 is_async_lifted kind.Callback = true
 is_async_lifted _ = false
+
+-- when the thread last began to wait or to be held; default: no thread
+abbrev pub came_of : ℕ → Core → ℕ
+came_of n s = option_map_or (λ t. t.came) (get s.threads n) 0
+
+-- it runs by the rules of version 2
+abbrev pub is_second : Version → Bool
+is_second version.Two = true
+is_second version.One = false
 
 -- a start or an activation of such an export keeps other entries of its instance out
 abbrev pub is_holding : ExportKind → Bool

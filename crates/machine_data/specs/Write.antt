@@ -1,6 +1,6 @@
 -- The primitives that change a core: each one field of one record, one record made or taken away, or one handle given or taken
 -- back.
-use Rattle.std.specs.Prelude.{ℕ, ◌+◌, Bool, true, false, List, [], ◌∷◌, ◌++◌, Option, Some, filter, not, ◌==◌, slice_set}
+use Rattle.std.specs.Prelude.{ℕ, ◌+◌, Bool, true, false, List, [], ◌∷◌, ◌++◌, Option, Some, filter, if◌then◌else◌, nat_lt, not, ◌==◌, slice_set}
 use Rattle.machine_data.specs.declared.statuses.TaskEvent.{TaskEvent}
 use Rattle.machine_data.specs.declared.statuses.Phase.{Phase}
 use Rattle.machine_data.specs.declared.statuses.Status.{Status}
@@ -21,6 +21,8 @@ use Rattle.machine_data.specs.declared.records.Subtask.{Subtask}
 use Rattle.machine_data.specs.declared.records.Subtask.TheVariants as subtask
 use Rattle.machine_data.specs.declared.records.Thread.{Thread}
 use Rattle.machine_data.specs.declared.records.Work.{Work}
+use Rattle.machine_data.specs.declared.scenario.Version.TheVariants as version
+use Rattle.machine_data.specs.declared.scenario.Version.{Version}
 use Rattle.machine_data.specs.Maps.{insert, remove, change}
 use Rattle.machine_data.specs.Core.{Core, Queues, NameTable}
 use Rattle.machine_data.specs.Read.{next_handle}
@@ -54,6 +56,23 @@ set_saved_callee n b = on_thread n (λ t. record t { saved_callee = b })
 
 unfoldable pub set_place : ℕ → Place → Core → Core
 set_place n p = on_thread n (λ t. record t { place = p })
+
+-- when a thread arrives that comes by these rules, by how many have come and when it came last
+abbrev pub arrival : Version → (arrivals last : ℕ) → ℕ
+arrival version.One arrivals last = last
+arrival version.Two arrivals last = arrivals
+
+-- one more has come; a count stays at the end of its type
+abbrev pub counted_arrival : Version → ℕ → ℕ
+counted_arrival version.One arrivals = arrivals
+counted_arrival version.Two arrivals = if nat_lt arrivals 18446744073709551615 then arrivals + 1 else arrivals
+
+-- the thread, which is about to wait or to be held, comes after all that wait or are held: in version 1 nothing is kept of that
+unfoldable pub arrive : ℕ → Core → Core
+arrive n s =
+    record (on_thread n (λ t. record t { came = arrival s.version s.arrivals t.came }) s) {
+      arrivals = counted_arrival s.version s.arrivals;
+    }
 
 -- each of these threads is put at the place
 abbrev pub set_places : List ℕ → Place → Core → Core
@@ -101,6 +120,9 @@ set_end k e = on_call k (λ c. record c { «end» = Some e })
 
 unfoldable pub set_task_event : ℕ → Option TaskEvent → Core → Core
 set_task_event k e = on_call k (λ c. record c { task_event = e })
+
+unfoldable pub set_cancel_asked : ℕ → Core → Core
+set_cancel_asked k = on_call k (λ c. record c { cancel_asked = true })
 
 unfoldable pub set_cancel_delivered : ℕ → Core → Core
 set_cancel_delivered k = on_call k (λ c. record c { cancel_delivered = true })

@@ -24,7 +24,7 @@ pub use records::{
     Notice, NoticeKind, OpProgress, Place, Script, Set, Stage, Subtask, Thread, Turn, Why, Work,
     WorkCaller,
 };
-pub use scenario::{IdleLine, MainOpDef, NamesDef, ScenarioDef};
+pub use scenario::{IdleLine, MainOpDef, NamesDef, ScenarioDef, Version};
 pub use seq::Seq;
 pub use statuses::{Given, HostPoll, Mark, Phase, Status, TaskEvent};
 pub use trap::Trap;

@@ -118,6 +118,8 @@ pub struct Thread {
     pub saved_own: Option<bool>,
     /// `do_not_suspend` of the callee's instance before the op under way.
     pub saved_callee: Option<bool>,
+    /// In version 2, when it last began to wait or to be held, as `arrivals` counts it.
+    pub came: u64,
     pub registers: [u64; 16],
 }
 
@@ -175,6 +177,8 @@ pub struct Call {
     /// The status that wasn't handed out yet.
     pub event: Option<Status>,
     pub task_event: Option<TaskEvent>,
+    /// A cancel was asked of it.
+    pub cancel_asked: bool,
     /// A cancel request was delivered.
     pub cancel_delivered: bool,
     /// Its first thread has ended.

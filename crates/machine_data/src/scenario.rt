@@ -2,6 +2,13 @@ use crate::component::{Callee, Component};
 use crate::op::Operand;
 use crate::seq::Seq;
 
+/// By which rules a text is run.
+#[derive(Clone, Copy, PartialEq, Eq)]
+pub enum Version {
+    One,
+    Two,
+}
+
 /// What happens where nothing can go on and no host work is live: `idle trap` or `idle wait`.
 #[derive(Clone, Copy)]
 pub enum IdleLine {
@@ -42,6 +49,7 @@ pub struct NamesDef {
 /// A scenario: the limits, what is run, and what main does.
 #[derive(Drop)]
 pub struct ScenarioDef {
+    pub version: Version,
     /// How many handles may be live at once.
     pub handles: u32,
     /// How many entries the resource table has room for.

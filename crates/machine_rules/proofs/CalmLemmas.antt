@@ -3,7 +3,7 @@ use Rattle.std.proofs.Common.{refl, suc, zero}
 use Rattle.std.specs.Prelude.{Bool, List, None, Option, Some, false, is_some, nat_le, nat_lt, not, true, ℕ, ◌%◌, ◌*◌, ◌+◌, ◌/◌, ◌==◌, ◌≡◌}
 use Rattle.machine_data.specs.Core.{Core}
 use Rattle.machine_data.specs.Labels.{Choice, exit_label, join_label, ret_label, task_cancel_label, wait_label}
-use Rattle.machine_data.specs.Moves.{PickedEvent, PickedMember, NothingPicked, PickedTaskEvent, picked_event, may_hand_on, passes_check}
+use Rattle.machine_data.specs.Moves.{PickedEvent, PickedMember, NothingPicked, PickedTaskEvent, picked_event, may_hand_on, passes_check, waits_cancellable}
 use Rattle.machine_data.specs.Read.{at_handle_limit, backpressure_of, cancel_was_delivered, event_of, fits, foot_of, goal_of, has_ended, has_member, has_waiters, op_progress_of, instance_of, is_async_lifted, is_direct, is_explicit, is_joined, is_watched, join_of, kind_of, registers_of, set_at, subtask_at, subtask_ended, task_of, thread_at, undelivered_end, under_of, was_cancelled}
 use Rattle.machine_data.specs.Statuses.{status_code}
 use Rattle.machine_data.specs.Write.{set_join}
@@ -44,7 +44,7 @@ use Rattle.machine_data.specs.declared.statuses.Status.{Status}
 use Rattle.machine_data.specs.declared.component.HostDef.{HostDef}
 use Rattle.machine_data.specs.declared.component.HostDef.TheVariants as host_def
 use Rattle.machine_rules.specs.Calls.{AtOnce, Failing, FirstPoll, Later, call_begins, call_host_by, call_resumes, call_rule, call_status_by, call_sync_begins, call_sync_host_by, call_sync_host_rule, call_sync_rule, call_sync_status_by, enter_rule, first_polled, heard_first, polled_first, status_found}
-use Rattle.machine_rules.specs.Cancels.{AlreadyEnded, Async, CallbackWaits, CallbackYields, CancelCase, Mode, OtherwiseRuns, StartNotRun, Sync, after_cancel_by, cancel_aborts_host, cancel_asks, cancel_by, cancel_case, cancel_ended_by, cancel_found_by, cancel_guest_by, cancel_label, cancel_resumed, cancel_rule, cancel_subtask_by, cancel_unended_by, drop_by, subtask_rule}
+use Rattle.machine_rules.specs.Cancels.{AlreadyEnded, Async, AskedBefore, ThreadWaits, CallbackYields, CancelCase, Mode, OtherwiseRuns, StartNotRun, Sync, after_cancel_by, cancel_aborts_host, cancel_asks, cancel_by, cancel_case, cancel_ended_by, cancel_found_by, cancel_guest_by, cancel_label, cancel_resumed, cancel_rule, cancel_subtask_by, cancel_unended_by, drop_by, subtask_rule, cancel_host_by}
 use Rattle.machine_rules.specs.Data.{data_rule, skip_rule}
 use Rattle.machine_rules.specs.Ends.{blocking_exit_rule, code_kind_rule, code_rule, code_wait_rule, direct_exit_to, exit_rule_for, has_event_for, held_by_flag, implicit_exit_rule, kind_exit_rule, leaves_no_result, may_tell, passes_after_return, passes_after_stop, sync_exit_rule, thread_exit_rule}
 use Rattle.machine_rules.specs.Finish.{Doer}
@@ -177,28 +177,23 @@ module _ (d : Doer) (mode : Mode) (n : ℕ) where
   pub after_calm : (sub : Subtask) (s : Core) → LeavesNoChoice (after_cancel_by d mode n sub s)
   after_calm sub s = by_end_calm sub s (subtask_ended sub s)
 
-  pub guest_calm : (k : ℕ) (s : Core) (x : CancelCase) → LeavesNoChoice (cancel_guest_by d mode n k s x)
-  guest_calm k s AlreadyEnded = ended_calm (subtask.Guest k) s (undelivered_end (event_of (subtask.Guest k) s))
-  guest_calm k s StartNotRun = silent_cancel mode n 3
-  guest_calm k s CallbackWaits = (refl, refl)
-  guest_calm k s CallbackYields = (refl, refl)
-  guest_calm k s OtherwiseRuns = after_calm (subtask.Guest k) (cancel_asks k s)
+  -- but where it takes one of several threads, which its label doesn't show
+  pub guest_calm : (k : ℕ) (s : Core) (x : CancelCase) → (x ≡ ThreadWaits → ⊥) → LeavesNoChoice (cancel_guest_by d mode n k s x)
+  guest_calm k s AlreadyEnded apart = ended_calm (subtask.Guest k) s (undelivered_end (event_of (subtask.Guest k) s))
+  guest_calm k s StartNotRun apart = silent_cancel mode n 3
+  guest_calm k s AskedBefore apart = tt
+  guest_calm k s ThreadWaits apart = absurd (apart refl)
+  guest_calm k s CallbackYields apart = (refl, refl)
+  guest_calm k s OtherwiseRuns apart = after_calm (subtask.Guest k) (cancel_asks k s)
 
-  pub subtask_calm : (s : Core) (sub : Subtask) → LeavesNoChoice (cancel_subtask_by d mode n s sub)
-  subtask_calm s (subtask.Guest k) = guest_calm k s (cancel_case k s)
-  subtask_calm s (subtask.Host i) = trap_if_calm (was_cancelled i s) _ _ (after_calm (subtask.Host i) (cancel_aborts_host i s))
+  pub host_cancel_calm : (s : Core) (i : ℕ) → LeavesNoChoice (cancel_host_by d mode n i s)
+  host_cancel_calm s i = trap_if_calm (was_cancelled i s) _ _ (after_calm (subtask.Host i) (cancel_aborts_host i s))
 
-  pub found_calm : (s : Core) (sub : Subtask) → LeavesNoChoice (cancel_found_by d mode n s sub)
-  found_calm s sub = trap_if_calm (is_joined (join_of sub s)) _ _ (subtask_calm s sub)
+  pub cancelling_calm : (h : ℕ) (s : Core) (sub : Subtask) → LeavesNoChoice (cancel_rule d mode n h s (op_progress.Cancels sub))
+  cancelling_calm h s sub = after_calm sub (cancel_resumed n sub s)
 
-  pub named_calm : (h : ℕ) (s : Core) → LeavesNoChoice (or_trap (subtask_at (instance_of n s) h s) trap.BadHandle (cancel_found_by d mode n s))
-  named_calm h s = or_trap_calm (subtask_at (instance_of n s) h s) _ _ (λ sub. found_calm s sub)
-
-  pub cancel_calm : (h : ℕ) (s : Core) (far : OpProgress) → LeavesNoChoice (cancel_rule d mode n h s far)
-  cancel_calm h s (op_progress.Cancels sub) = after_calm sub (cancel_resumed n sub s)
-  cancel_calm h s (op_progress.AwaitsEnd sub) =
-      let t = set_join sub join.Nowhere s in ended_calm sub t (undelivered_end (event_of sub t))
-  cancel_calm h s _ = named_calm h s
+  pub awaiting_calm : (h : ℕ) (s : Core) (sub : Subtask) → LeavesNoChoice (cancel_rule d mode n h s (op_progress.AwaitsEnd sub))
+  awaiting_calm h s sub = let t = set_join sub join.Nowhere s in ended_calm sub t (undelivered_end (event_of sub t))
 
 pub drop_calm : (d : Doer) (n h : ℕ) (s : Core) (sub : Subtask) → LeavesNoChoice (drop_by d n h s sub)
 drop_calm d n h s sub =
@@ -206,14 +201,19 @@ drop_calm d n h s sub =
     trap_if_calm (not (subtask_ended sub s)) _ _ (
     trap_if_calm (is_some (event_of sub s)) _ _ (refl, refl)))
 
-pub calls_calm : (d : Doer) (c : Component) (n : ℕ) (s : Core) (o : CallOp) → LeavesNoChoice (subtask_rule d c n s o)
-calls_calm d c n s (call_op.Call r q e xs) = call_calm d n s c q e (values_in (registers_of n s) xs) (op_progress_of n s)
-calls_calm d c n s (call_op.CallSync r e xs) = sync_calm d n s c e (values_in (registers_of n s) xs) (op_progress_of n s)
-calls_calm d c n s (call_op.CallHost r q h) = first_polled_calm d n s (host_at c h) (call_host_by d n q s) (λ x. host_calm d n s q x)
-calls_calm d c n s (call_op.CallSyncHost r h) = sync_host_calm d n s c h (op_progress_of n s)
-calls_calm d c n s (call_op.Cancel r x) = cancel_calm d Async n (value_of n s x) s (op_progress_of n s)
-calls_calm d c n s (call_op.CancelSync r x) = cancel_calm d Sync n (value_of n s x) s (op_progress_of n s)
-calls_calm d c n s (call_op.Drop x) =
+abbrev pub is_cancel : CallOp → Bool
+is_cancel (call_op.Cancel r x) = true
+is_cancel (call_op.CancelSync r x) = true
+is_cancel o = false
+
+pub calls_calm : (d : Doer) (c : Component) (n : ℕ) (s : Core) (o : CallOp) → is_cancel o ≡ false → LeavesNoChoice (subtask_rule d c n s o)
+calls_calm d c n s (call_op.Call r q e xs) none = call_calm d n s c q e (values_in (registers_of n s) xs) (op_progress_of n s)
+calls_calm d c n s (call_op.CallSync r e xs) none = sync_calm d n s c e (values_in (registers_of n s) xs) (op_progress_of n s)
+calls_calm d c n s (call_op.CallHost r q h) none = first_polled_calm d n s (host_at c h) (call_host_by d n q s) (λ x. host_calm d n s q x)
+calls_calm d c n s (call_op.CallSyncHost r h) none = sync_host_calm d n s c h (op_progress_of n s)
+calls_calm d c n s (call_op.Cancel r x) none = absurd (cc)
+calls_calm d c n s (call_op.CancelSync r x) none = absurd (cc)
+calls_calm d c n s (call_op.Drop x) none =
     or_trap_calm (subtask_at (instance_of n s) (value_of n s x) s) _ _ (λ sub. drop_calm d n (value_of n s x) s sub)
 
 -- ---- Threads
@@ -334,7 +334,10 @@ module _ (d : Doer) (n : ℕ) (s : Core) where
       may_none (may_hand_on x (PickedMember sub) ch.woken s) _ tt
 
   abbrev picked_event_here : Choice → ℕ → Option PickedEvent
-  picked_event_here ch x = picked_event false (task_of n s) x (chosen n ch s) s
+  picked_event_here ch x = picked_event (waits_cancellable (task_of n s) s) (task_of n s) x (chosen n ch s) s
+
+  abbrev polled_event : Choice → ℕ → Option PickedEvent
+  polled_event ch x = picked_event false (task_of n s) x (chosen n ch s) s
 
   pub wait_begins_none : (ch : Choice) (x : ℕ) (b : Bool) → ReleasesNone (wait_begins_by d n ch s x b)
   wait_begins_none ch x true = trap_if_none check_fails _ _ tt
@@ -357,4 +360,4 @@ module _ (d : Doer) (n : ℕ) (s : Core) where
   join_to_none (suc h) w sub = or_trap_none (set_at (instance_of n s) (suc h) s) _ _ (λ x. join_done_none sub w (Some x))
 
   pub poll_none : (h : ℕ) (ch : Choice) → ReleasesNone (poll_rule d n h ch s)
-  poll_none h ch = or_trap_none (set_at (instance_of n s) h s) _ _ (λ y. or_never_none (picked_event_here ch y) _ (λ g. tt))
+  poll_none h ch = or_trap_none (set_at (instance_of n s) h s) _ _ (λ y. or_never_none (polled_event ch y) _ (λ g. tt))

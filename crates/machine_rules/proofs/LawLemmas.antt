@@ -1,6 +1,7 @@
 -- The laws of steps and runs.
 use Rattle.machine_rules.proofs.Machine.{[], add_call, add_group, add_set, add_thread, add_work, AddGroup, after_primitive, ap, arith, Call, call_made, Core, count_work, EachStep, free_handle, free_thread_handle, get, get-change, get-insert, get-remove, give_handle, give_result, give_thread_handle, KeptByRuns, Label, LaterBy, LaterCall, LaterWork, le_trans, nat_tests, NeverFewer, None, on_call, on_instance, on_thread, on_work, Option, Outcome, outcome_of_label, OutcomeEnds, OutcomeIsLast, OverIsLast, Places, poll_pends, push_high, refl, remove_call, remove_group, remove_set, remove_thread, remove_work, Run, RunGoesOn, RunsJoin, SameLimits, SameThread, Scene, set_backpressure, set_cancel_delivered, set_cancelled, set_course, set_do_not_enter, set_do_not_suspend, set_end, set_event, set_exited, set_op_progress, set_join, set_task_event, set_phase, set_position, set_register, set_result, set_saved_callee, set_saved_own, set_script, set_stage, set_started, set_starting_published, set_subtask_handle, set_thread_handle, set_trapped, set_uninteresting, set_memory_cell, Setting, settled_turn, SetTrapped, Some, State, Steady, Step, subst, sym, take_result, TakeHost, TakePush, Thread, Turn, TurnStep, Walk, with_handle, with_thread_handle, Primitive, Work, work_queued, ℕ, ◌∙◌, ◌∷◌, ◌≡◌, ◌≤◌}
 use Rattle.machine_rules.proofs.{ChainLemmas.along, PlacingLemmas.placing_shifted, PlacingLemmas.popped_shifted, WalkSteps.step_walks}
+unfoldable use Rattle.machine_data.specs.Write.{arrive, set_cancel_asked}
 
 -- a label that gives an outcome ends the turns
 pub step_ends : OutcomeEnds
@@ -39,7 +40,7 @@ outcome_is_last x s [] l k t r = not_last x r.0 k r.1.1.0 (outcome_of_label l) (
 outcome_is_last x s (j ∷ js) l k t r = outcome_is_last x r.0 js l k t r.1.1
 
 fewer_primitive : (w : Primitive) (s : Core) → NeverFewer s (after_primitive w s)
-unfolding add_call add_group add_set add_thread add_work call_made count_work free_handle free_thread_handle give_handle give_result give_thread_handle on_call on_instance on_thread on_work poll_pends push_high remove_call remove_group remove_set remove_thread remove_work set_backpressure set_cancel_delivered set_cancelled set_course set_do_not_enter set_do_not_suspend set_end set_event set_exited set_op_progress set_join set_task_event set_phase set_position set_register set_result set_saved_callee set_saved_own set_script set_stage set_started set_starting_published set_subtask_handle set_thread_handle set_trapped set_uninteresting set_memory_cell take_result with_handle with_thread_handle work_queued
+unfolding arrive set_cancel_asked add_call add_group add_set add_thread add_work call_made count_work free_handle free_thread_handle give_handle give_result give_thread_handle on_call on_instance on_thread on_work poll_pends push_high remove_call remove_group remove_set remove_thread remove_work set_backpressure set_cancel_delivered set_cancelled set_course set_do_not_enter set_do_not_suspend set_end set_event set_exited set_op_progress set_join set_task_event set_phase set_position set_register set_result set_saved_callee set_saved_own set_script set_stage set_started set_starting_published set_subtask_handle set_thread_handle set_trapped set_uninteresting set_memory_cell take_result with_handle with_thread_handle work_queued
 fewer_primitive AddGroup s = omega arith
 fewer_primitive w s = omega arith
 
@@ -50,7 +51,7 @@ pub runs_never_fewer : KeptByRuns NeverFewer
 runs_never_fewer = runs_keep NeverFewer (λ s. omega arith) (λ s m t a b. omega arith) never_fewer
 
 limited_primitive : (b : Core) (w : Primitive) (s : Core) → SameLimits b s → SameLimits b (after_primitive w s)
-unfolding add_call add_group add_set add_thread add_work call_made count_work free_handle free_thread_handle give_handle give_result give_thread_handle on_call on_instance on_thread on_work poll_pends push_high remove_call remove_group remove_set remove_thread remove_work set_backpressure set_cancel_delivered set_cancelled set_course set_do_not_enter set_do_not_suspend set_end set_event set_exited set_op_progress set_join set_task_event set_phase set_position set_register set_result set_saved_callee set_saved_own set_script set_stage set_started set_starting_published set_subtask_handle set_thread_handle set_trapped set_uninteresting set_memory_cell take_result with_handle with_thread_handle work_queued
+unfolding arrive set_cancel_asked add_call add_group add_set add_thread add_work call_made count_work free_handle free_thread_handle give_handle give_result give_thread_handle on_call on_instance on_thread on_work poll_pends push_high remove_call remove_group remove_set remove_thread remove_work set_backpressure set_cancel_delivered set_cancelled set_course set_do_not_enter set_do_not_suspend set_end set_event set_exited set_op_progress set_join set_task_event set_phase set_position set_register set_result set_saved_callee set_saved_own set_script set_stage set_started set_starting_published set_subtask_handle set_thread_handle set_trapped set_uninteresting set_memory_cell take_result with_handle with_thread_handle work_queued
 limited_primitive b SetTrapped s q = record { handle_limit = q.handle_limit; capacity = q.capacity; trapped = λ h. refl }
 limited_primitive b w s q = assumption
 
@@ -74,7 +75,7 @@ work_after x y z p q = grind arith
 module _ (b : Core) where
   threads_primitive : (w : Primitive) (s : Core) (n : ℕ) → n ≤ s.made.threads → LaterBy SameThread (get b.threads n) (get s.threads n) →
       LaterBy SameThread (get b.threads n) (get (after_primitive w s).threads n)
-  unfolding add_call add_group add_set add_thread add_work call_made count_work free_handle free_thread_handle give_handle give_result give_thread_handle on_call on_instance on_thread on_work poll_pends push_high remove_call remove_group remove_set remove_thread remove_work set_backpressure set_cancel_delivered set_cancelled set_course set_do_not_enter set_do_not_suspend set_end set_event set_exited set_op_progress set_join set_task_event set_phase set_position set_register set_result set_saved_callee set_saved_own set_script set_stage set_started set_starting_published set_subtask_handle set_thread_handle set_trapped set_uninteresting set_memory_cell take_result with_handle with_thread_handle work_queued
+  unfolding arrive set_cancel_asked add_call add_group add_set add_thread add_work call_made count_work free_handle free_thread_handle give_handle give_result give_thread_handle on_call on_instance on_thread on_work poll_pends push_high remove_call remove_group remove_set remove_thread remove_work set_backpressure set_cancel_delivered set_cancelled set_course set_do_not_enter set_do_not_suspend set_end set_event set_exited set_op_progress set_join set_task_event set_phase set_position set_register set_result set_saved_callee set_saved_own set_script set_stage set_started set_starting_published set_subtask_handle set_thread_handle set_trapped set_uninteresting set_memory_cell take_result with_handle with_thread_handle work_queued
   threads_primitive (Places p) s n below q = let same = (placing_shifted p s).threads n in grind arith
   threads_primitive (TakePush m i) s n below q = let same = (popped_shifted m s).threads n in grind arith
   threads_primitive (TakeHost m i) s n below q = let same = (popped_shifted m s).threads n in grind arith
@@ -82,13 +83,13 @@ module _ (b : Core) where
 
   calls_primitive : (w : Primitive) (s : Core) (n : ℕ) → n ≤ s.made.threads → LaterBy LaterCall (get b.calls n) (get s.calls n) →
       LaterBy LaterCall (get b.calls n) (get (after_primitive w s).calls n)
-  unfolding add_call add_group add_set add_thread add_work call_made count_work free_handle free_thread_handle give_handle give_result give_thread_handle on_call on_instance on_thread on_work poll_pends push_high remove_call remove_group remove_set remove_thread remove_work set_backpressure set_cancel_delivered set_cancelled set_course set_do_not_enter set_do_not_suspend set_end set_event set_exited set_op_progress set_join set_task_event set_phase set_position set_register set_result set_saved_callee set_saved_own set_script set_stage set_started set_starting_published set_subtask_handle set_thread_handle set_trapped set_uninteresting set_memory_cell take_result with_handle with_thread_handle work_queued
+  unfolding arrive set_cancel_asked add_call add_group add_set add_thread add_work call_made count_work free_handle free_thread_handle give_handle give_result give_thread_handle on_call on_instance on_thread on_work poll_pends push_high remove_call remove_group remove_set remove_thread remove_work set_backpressure set_cancel_delivered set_cancelled set_course set_do_not_enter set_do_not_suspend set_end set_event set_exited set_op_progress set_join set_task_event set_phase set_position set_register set_result set_saved_callee set_saved_own set_script set_stage set_started set_starting_published set_subtask_handle set_thread_handle set_trapped set_uninteresting set_memory_cell take_result with_handle with_thread_handle work_queued
   calls_primitive AddGroup s n below q = q
   calls_primitive w s n below q = first_of (assumption, grind (arith, nat_tests, get-change, get-insert, get-remove))
 
   works_primitive : (w : Primitive) (s : Core) (n : ℕ) → n ≤ s.made.works → LaterBy LaterWork (get b.works n) (get s.works n) →
       LaterBy LaterWork (get b.works n) (get (after_primitive w s).works n)
-  unfolding add_call add_group add_set add_thread add_work call_made count_work free_handle free_thread_handle give_handle give_result give_thread_handle on_call on_instance on_thread on_work poll_pends push_high remove_call remove_group remove_set remove_thread remove_work set_backpressure set_cancel_delivered set_cancelled set_course set_do_not_enter set_do_not_suspend set_end set_event set_exited set_op_progress set_join set_task_event set_phase set_position set_register set_result set_saved_callee set_saved_own set_script set_stage set_started set_starting_published set_subtask_handle set_thread_handle set_trapped set_uninteresting set_memory_cell take_result with_handle with_thread_handle work_queued
+  unfolding arrive set_cancel_asked add_call add_group add_set add_thread add_work call_made count_work free_handle free_thread_handle give_handle give_result give_thread_handle on_call on_instance on_thread on_work poll_pends push_high remove_call remove_group remove_set remove_thread remove_work set_backpressure set_cancel_delivered set_cancelled set_course set_do_not_enter set_do_not_suspend set_end set_event set_exited set_op_progress set_join set_task_event set_phase set_position set_register set_result set_saved_callee set_saved_own set_script set_stage set_started set_starting_published set_subtask_handle set_thread_handle set_trapped set_uninteresting set_memory_cell take_result with_handle with_thread_handle work_queued
   works_primitive AddGroup s n below q = q
   works_primitive w s n below q = first_of (assumption, grind (arith, nat_tests, get-change, get-insert, get-remove))
 

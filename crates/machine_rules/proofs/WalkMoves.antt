@@ -1,6 +1,7 @@
 -- The moves of the machine as chains of primitives.
 use Rattle.machine_rules.proofs.Machine.{[], add_call, add_group, add_set, add_thread, add_work, Advance, after_placing, after_primitive, ap, arith, AtOp, blocked_on, Bool, ByHandle, call_group, call_made, call_settled, can_come, CanCome, checked, chosen, Core, count_work, Delivery, departed, Departs, end_of, ended, exited_if, false, first_entry, foot_of, free_handle, free_thread_handle, freed_thread_handle, FreeThreadHandle, get, get-change, get-insert, get-remove, get-remove_same, PickedEvent, give_handle, give_result, give_thread_handle, group_settled, Halted, Halts, handed_on, hands_on, has_ended, has_waiter, held_why_of, OpProgress, if◌then◌else◌, InOp, inr, instance_of, interest_settled, is_at, is_blocked_on, is_callback_waiter, is_deletable, is_done_host, is_explicit, is_finished, is_group_done, is_some, is_told, is_waiter, is_waiting_on, IsNamed, IsRunner, IsSettling, IsStarting, Join, join_of, Lands, lands_alone, lands_inside, LandsAt, le_refl, le_trans, Leaves, leaving, List, MakeThread, Mark, may_hand_on, may_not_suspend, may_publish, may_tell, may_wake, may_wake_joined, MayCome, MayDeliver, MayLand, MayPut, MayRemoveCall, PickedMember, nat_tests, NothingPicked, None, not, NoPrimitive, numbers, on_call, on_instance, on_thread, on_work, op_in, Option, option_map, option_map_or, TaskEvent, PickedTaskEvent, Place, place_of, Places, Placing, poll_pends, position_of, Promote, promoted, promoted_first, promoted_unless, published, push_high, Put, put_high, Quits, Records, refl, released, released_one, Releases, remove, remove_call, remove_group, remove_set, remove_thread, remove_work, RemoveCall, RemoveGroup, RemoveThread, Restart, Scene, set_backpressure, set_cancel_delivered, set_cancelled, set_course, set_do_not_enter, set_do_not_suspend, set_end, set_event, set_exited, set_op_progress, set_join, set_task_event, set_phase, set_position, set_register, set_result, set_saved_callee, set_saved_own, set_script, set_stage, set_started, set_starting_published, set_subtask_handle, set_thread_handle, set_trapped, set_uninteresting, set_memory_cell, SetCallEvent, SetCancelDelivered, SetExited, SetTaskEvent, Settles, SetUninteresting, Shifts, Some, Status, Stay, Stop, stopped, subst, Subtask, sym, take_result, TakeHost, taken, TakePush, TakesNamed, TakeWorkEvent, task_of, Tells, Then, Thread, thread_handle_of, told, Trip, true, Turn, unblocked, Unblocks, wake, wake_joined, wake_why, waken_by, Wakes, Walk, Why, with_handle, with_thread_handle, Primitive, work_queued, ℕ, ◌||◌, ◌∙◌, ◌∷◌, ◌≡◌, ◌≤◌}
 use Rattle.machine_rules.proofs.{CallThreads.LastEnds, CallThreads.SameTasks, CallThreads.any_found, ChainLemmas.Keep, ChainLemmas.Keeps, ChainLemmas.along, ChainLemmas.chain_if, ChainLemmas.gone_walk, ChainLemmas.join, ChainLemmas.keep_stay, ChainLemmas.settle_keeps, ChainLemmas.settle_stays, ChainLemmas.shift_keeps, ChainLemmas.weaken, PlacingLemmas.Shifted, PlacingLemmas.placed, PlacingLemmas.placing_shifted, PlacingLemmas.popped_shifted, PlacingLemmas.unplaced, PromotionLemmas.first_has_entry, StandLemmas.set_place_is, StopLemmas.find_passes}
+unfoldable use Rattle.machine_data.specs.Write.{arrive, set_cancel_asked}
 
 -- ---- What other threads result in
 
@@ -117,7 +118,7 @@ spared_released (m ∷ ns) x n s h = spared_released ns x n (released_one m (hel
 
 -- no primitive but that of an op that is done brings a thread further
 kept_primitive : (a : Scene) (n : ℕ) (w : Primitive) (s : Core) → Keeps a w s → position_of n (after_primitive w s) ≤ position_of n s
-unfolding add_call add_group add_set add_thread add_work call_made count_work free_handle free_thread_handle give_handle give_result give_thread_handle on_call on_instance on_thread on_work poll_pends push_high remove_call remove_group remove_set remove_thread remove_work set_backpressure set_cancel_delivered set_cancelled set_course set_do_not_enter set_do_not_suspend set_end set_event set_exited set_op_progress set_join set_task_event set_phase set_position set_register set_result set_saved_callee set_saved_own set_script set_stage set_started set_starting_published set_subtask_handle set_thread_handle set_trapped set_uninteresting set_memory_cell take_result with_handle with_thread_handle work_queued
+unfolding arrive set_cancel_asked add_call add_group add_set add_thread add_work call_made count_work free_handle free_thread_handle give_handle give_result give_thread_handle on_call on_instance on_thread on_work poll_pends push_high remove_call remove_group remove_set remove_thread remove_work set_backpressure set_cancel_delivered set_cancelled set_course set_do_not_enter set_do_not_suspend set_end set_event set_exited set_op_progress set_join set_task_event set_phase set_position set_register set_result set_saved_callee set_saved_own set_script set_stage set_started set_starting_published set_subtask_handle set_thread_handle set_trapped set_uninteresting set_memory_cell take_result with_handle with_thread_handle work_queued
 kept_primitive a n (Places p) s ok = let same = (placing_shifted p s).threads n in grind (arith, same)
 kept_primitive a n (Advance m p) s ok = absurd ok
 kept_primitive a n (TakePush m i) s ok = let same = (popped_shifted m s).threads n in grind (arith, same)
@@ -140,7 +141,7 @@ same_at n b s t made same q = record { made = rw made q.made; position = grind (
 
 module _ (a : Scene) (n : ℕ) (runs : place_of n a.base ≡ Some Place.Running) (below : n ≤ a.base.made.threads) where
   still_primitive : (w : Primitive) (s : Core) → Keeps a w s → StillAt n a.base s → StillAt n a.base (after_primitive w s)
-  unfolding add_call add_group add_set add_thread add_work call_made count_work free_handle free_thread_handle give_handle give_result give_thread_handle on_call on_instance on_thread on_work poll_pends push_high remove_call remove_group remove_set remove_thread remove_work set_backpressure set_cancel_delivered set_cancelled set_course set_do_not_enter set_do_not_suspend set_end set_event set_exited set_op_progress set_join set_task_event set_phase set_position set_register set_result set_saved_callee set_saved_own set_script set_stage set_started set_starting_published set_subtask_handle set_thread_handle set_trapped set_uninteresting set_memory_cell take_result with_handle with_thread_handle work_queued
+  unfolding arrive set_cancel_asked add_call add_group add_set add_thread add_work call_made count_work free_handle free_thread_handle give_handle give_result give_thread_handle on_call on_instance on_thread on_work poll_pends push_high remove_call remove_group remove_set remove_thread remove_work set_backpressure set_cancel_delivered set_cancelled set_course set_do_not_enter set_do_not_suspend set_end set_event set_exited set_op_progress set_join set_task_event set_phase set_position set_register set_result set_saved_callee set_saved_own set_script set_stage set_started set_starting_published set_subtask_handle set_thread_handle set_trapped set_uninteresting set_memory_cell take_result with_handle with_thread_handle work_queued
   still_primitive (Places p) s ok q = same_at n a.base s _ refl ((placing_shifted p s).threads n) q
   still_primitive (Advance m p) s ok q = absurd ok
   still_primitive (Restart m) s ok q = record { made = q.made; position = grind (arith, nat_tests, get-change, q.position, ok, runs) }

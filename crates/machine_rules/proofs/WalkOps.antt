@@ -1,6 +1,16 @@
 -- The rules of the ops on sets, subtasks and threads as chains of primitives.
-use Rattle.machine_rules.proofs.Walks.{[], aborted_phase, AbortsOwn, add_work, advanced, after_primitive, AlreadyEnded, and_parts, answered, answered_by, Answers, answers_by, ap, arith, assigned, Async, at_handle_limit, AtOnce, blocked_code, Bool, by_number, ByHandle, ByOp, BySetHandle, ByThread, ByWait, Call, call_begins, call_done_walks, call_ends, call_host_by, call_instance, call_let_go, call_of_op, call_pending, call_queues, call_resumes, call_rule, call_settled, call_settles, call_status, call_status_by, call_sync_begins, call_sync_host_by, call_sync_host_rule, call_sync_host_stops, call_sync_rule, call_sync_status, call_sync_status_by, call_sync_stops, call_taken, call_with_handle, CallbackWaits, CallbackYields, Callee, callee_of_op, CallEnd, Caller, caller_of, CallLabel, CallOp, calls_host, cancel_aborts_host, cancel_asks, cancel_by, cancel_by_end, cancel_case, cancel_ended_by, cancel_ended_rule, cancel_guest, cancel_guest_by, cancel_hands_of, cancel_label, cancel_promotes_yield, cancel_resumed, cancel_rule, cancel_stops, cancel_subtask, cancel_subtask_by, cancel_target, cancel_wakes_callback, cancel_writes_of, CancelCase, cancelled_of_op, Cancelling, Cancels, checked, checked_shifts, Choice, chosen, chosen_of, CloseSet, Core, count_work, CountWork, Delivery, Doer, dropped, end_for, ended, EndsSubtask, EndTells, EndPrimitives, enter_runs, event_gone, event_of, export_kind, Failing, false, finds_nothing, finish, first_polled, FirstPoll, fits, free_handle, get, get-change, get-insert_same, get-remove, PickedEvent, picked_event, give_handle, given_out, Goal, Continues, Going, group_settled, Halt, halt_rule, halted, halted_at, halted_checked, halted_promoting, halted_resuming, halting, halting_by, halts, halts_by, handed_as, handed_by_cancel, handed_by_event, handed_on, handed_on_shifts, handed_out, hands_by, HandsAtOnce, HandsOut, has_ended, has_member, has_waiters, has_yielded, HasNoEnd, HasSubtask, heard_first, host_at, host_end, host_valued, host_with_handle, HostDef, HostPoll, op_progress_of, OpProgress, if◌then◌else◌, inl, inr, instance_of, is_async_lifted, is_async_work, is_callback_yield, is_calling_host, is_cancel, is_direct, is_ended_work, is_for_main, is_join, is_joined, is_open, is_other, is_ready_to_resume, is_script, is_some, is_stage_ended, is_sync_call, is_sync_cancel, is_sync_host_call, is_thread_op, is_wait, is_waiting_on, is_watched, is_yielded, IsNamed, IsNew, IsReadyAtOnce, Join, join, join_done, join_done_by, join_label, join_of, join_to, join_to_by, joined, joins, Keep, keep_stay, keep_still, Label, lands_at, Later, Leaves, List, MadeCounts, Main, makes_set, MakeThread, Mark, may, may_hand_on, may_wake_new, MayBeOpen, MayCancel, MayJoin, MayMakeCall, MayTake, PickedMember, Mode, Move, moved_over, moved_to, mute_primitives, NameCall, NameThread, NameWork, nat_tests, new_handle, new_thread, new_thread_handle, new_work, next_thread, next_work, NoAnswer, NothingPicked, None, none_said, not, NoPrimitive, on_call, on_instance, on_thread, on_work, OneEvent, OneNumber, Op, op_in, OpenSet, Option, option_and_then, option_map, option_map_or, OtherwiseRuns, TaskEvent, PickedTaskEvent, OwnScript, packed, passes_check, pauses, phase_of, Place, place_of, placed, placing_shifted, polled_first, Progress, Promote, promoted, promoted_unless, promoted_walks, push_high, Put, put_back, put_low, put_switch, queues_work, QueueWork, received, received_by, received_woken, received_woken_by, Records, refl, registers_for, registers_of, remove_group, remove_thread, remove_work, result_gone, result_of, resume_why, resumed_by, Resumes, returned_of_op, said_is, saved_callee_of, says, says_by, Scene, Script, set_at, set_cancelled, set_closed, set_do_not_suspend, set_end, set_event, set_op_progress, set_join, set_opened, set_task_event, set_phase, set_position, set_register, set_result, set_rule, set_saved_callee, set_subtask_handle, set_switch, SetCancelled, SetExited, SetLabel, SetOp, SetTaskEvent, SetPhase, SetRegister, SetResult, SetSavedCallee, Setting, settled, settled_gone, SetUninteresting, Shifted, shifted, shifted_after, shifted_calls, shifted_far, shifted_made, shifted_ready, shifted_task, Shifts, shifts_shifted, Slot, slot_at, Some, SomeHost, Stage, StartNotRun, Status, status_code, status_found, Stay, stay_walk, Stops, subst, Subtask, subtask_at, subtask_ended, subtask_handle, subtask_instance, subtask_rule, subtask_under_way, suc, Suspends, suspends, Suspension, sym, Sync, sync_answered, T, taken, TakesEvent, task_of, TellsLater, TellsNone, Then, then_promote, then_promote_by, scripted_then_promote_rule, then_promote_rule, then_resume_rule, Thread, thread_added, thread_at, thread_group, thread_handle_of, thread_new_rule, thread_rule, ThreadLabel, ThreadOp, Trap, trap_if, Trip, true, Turn, undelivered_end, UnnameCall, unnamed, UnnameWork, unwrap_or, value_of, values_in, wait_begins, wait_begins_by, wait_goes_on, wait_goes_on_by, wait_label, wait_rule, wait_stops, wait_stops_checked, wake_shifts, wakes_joined, Walk, was_cancelled, was_started, Why, with_handle, Withdraw, withdrawn, primitive, Work, work_caller_of, work_deleted, work_queued, work_value, WorkCaller, Writes, WritesAtOnce, WritesCall, WritesNever, WritesToo, written_as, written_by_cancel, Yielding, Yields, yields, zero, ℕ, ◌+◌, ◌==◌, ◌∙◌, ◌∷◌, ◌≡◌, ◌⊎◌}
+use Rattle.machine_data.specs.Read.{cancel_was_asked, is_at, is_nil, is_second, task_event_of, waits_by_callback}
+use Rattle.machine_data.specs.Moves.{is_callback_waiter, waits_cancellable}
+use Rattle.machine_rules.specs.Cancels.{cancel_why, cancellable, is_waiting, is_waiting_of, waiting_callback, waiting_in}
+use Rattle.machine_rules.specs.Primitives.{SetCancelAsked}
+use Rattle.machine_rules.specs.Step.{is_among}
+unfoldable use Rattle.machine_data.specs.Write.{set_cancel_asked}
+use Rattle.machine_rules.proofs.Walks.{[], aborted_phase, AbortsOwn, add_work, advanced, after_primitive, AlreadyEnded, and_parts, answered, answered_by, Answers, answers_by, ap, arith, assigned, Async, at_handle_limit, AtOnce, blocked_code, Bool, by_number, ByHandle, ByOp, BySetHandle, ByThread, ByWait, Call, call_begins, call_done_walks, call_ends, call_host_by, call_instance, call_let_go, call_of_op, call_pending, call_queues, call_resumes, call_rule, call_settled, call_settles, call_status, call_status_by, call_sync_begins, call_sync_host_by, call_sync_host_rule, call_sync_host_stops, call_sync_rule, call_sync_status, call_sync_status_by, call_sync_stops, call_taken, call_with_handle, AskedBefore, ThreadWaits, CallbackYields, Callee, callee_of_op, CallEnd, Caller, caller_of, CallLabel, CallOp, calls_host, cancel_aborts_host, cancel_asks, cancel_by, cancel_by_end, cancel_case, cancel_ended_by, cancel_ended_rule, cancel_guest, cancel_guest_by, cancel_hands_of, cancel_label, cancel_promotes_yield, cancel_resumed, cancel_rule, cancel_stops, cancel_subtask, cancel_subtask_by, cancel_target, cancel_writes_of, CancelCase, cancelled_of_op, Cancelling, Cancels, checked, checked_shifts, Choice, chosen, chosen_of, CloseSet, Core, count_work, CountWork, Delivery, Doer, dropped, end_for, ended, EndsSubtask, EndTells, EndPrimitives, enter_runs, event_gone, event_of, export_kind, Failing, false, finds_nothing, finish, first_polled, FirstPoll, fits, free_handle, get, get-change, get-insert_same, get-remove, PickedEvent, picked_event, give_handle, given_out, Goal, Continues, Going, group_settled, Halt, halt_rule, halted, halted_at, halted_checked, halted_promoting, halted_resuming, halting, halting_by, halts, halts_by, handed_as, handed_by_cancel, handed_by_event, handed_on, handed_on_shifts, handed_out, hands_by, HandsAtOnce, HandsOut, has_ended, has_member, has_waiters, has_yielded, HasNoEnd, HasSubtask, heard_first, host_at, host_end, host_valued, host_with_handle, HostDef, HostPoll, op_progress_of, OpProgress, if◌then◌else◌, inl, inr, instance_of, is_async_lifted, is_async_work, is_callback_yield, is_calling_host, is_cancel, is_direct, is_ended_work, is_for_main, is_join, is_joined, is_open, is_other, is_ready_to_resume, is_script, is_some, is_stage_ended, is_sync_call, is_sync_cancel, is_sync_host_call, is_thread_op, is_wait, is_waiting_on, is_watched, is_yielded, IsNamed, IsNew, IsReadyAtOnce, Join, join, join_done, join_done_by, join_label, join_of, join_to, join_to_by, joined, joins, Keep, keep_stay, keep_still, Label, lands_at, Later, Leaves, List, MadeCounts, Main, makes_set, MakeThread, Mark, may, may_hand_on, may_wake_new, MayBeOpen, MayCancel, MayJoin, MayMakeCall, MayTake, PickedMember, Mode, Move, moved_over, moved_to, mute_primitives, NameCall, NameThread, NameWork, nat_tests, new_handle, new_thread, new_thread_handle, new_work, next_thread, next_work, NoAnswer, NothingPicked, None, none_said, not, NoPrimitive, on_call, on_instance, on_thread, on_work, OneEvent, OneNumber, Op, op_in, OpenSet, Option, option_and_then, option_map, option_map_or, OtherwiseRuns, TaskEvent, PickedTaskEvent, OwnScript, packed, passes_check, pauses, phase_of, Place, place_of, placed, placing_shifted, polled_first, Progress, Promote, promoted, promoted_unless, promoted_walks, push_high, Put, put_back, put_low, put_switch, queues_work, QueueWork, received, received_by, received_woken, received_woken_by, Records, refl, registers_for, registers_of, remove_group, remove_thread, remove_work, result_gone, result_of, resume_why, resumed_by, Resumes, returned_of_op, said_is, saved_callee_of, says, says_by, Scene, Script, set_at, set_cancelled, set_closed, set_do_not_suspend, set_end, set_event, set_op_progress, set_join, set_opened, set_task_event, set_phase, set_position, set_register, set_result, set_rule, set_saved_callee, set_subtask_handle, set_switch, SetCancelled, SetExited, SetLabel, SetOp, SetTaskEvent, SetPhase, SetRegister, SetResult, SetSavedCallee, Setting, settled, settled_gone, SetUninteresting, Shifted, shifted, shifted_after, shifted_calls, shifted_far, shifted_made, shifted_ready, shifted_task, Shifts, shifts_shifted, Slot, slot_at, Some, SomeHost, Stage, StartNotRun, Status, status_code, status_found, Stay, stay_walk, Stops, subst, Subtask, subtask_at, subtask_ended, subtask_handle, subtask_instance, subtask_rule, subtask_under_way, suc, Suspends, suspends, Suspension, sym, Sync, sync_answered, T, taken, TakesEvent, task_of, TellsLater, TellsNone, Then, then_promote, then_promote_by, scripted_then_promote_rule, then_promote_rule, then_resume_rule, Thread, thread_added, thread_at, thread_group, thread_handle_of, thread_new_rule, thread_rule, ThreadLabel, ThreadOp, Trap, trap_if, Trip, true, Turn, undelivered_end, UnnameCall, unnamed, UnnameWork, unwrap_or, value_of, values_in, wait_begins, wait_begins_by, wait_goes_on, wait_goes_on_by, wait_label, wait_rule, wait_stops, wait_stops_checked, wake_shifts, wakes_joined, Walk, was_cancelled, was_started, Why, with_handle, Withdraw, withdrawn, primitive, Work, work_caller_of, work_deleted, work_queued, work_value, WorkCaller, Writes, WritesAtOnce, WritesCall, WritesNever, WritesToo, written_as, written_by_cancel, Yielding, Yields, yields, zero, ℕ, ◌+◌, ◌==◌, ◌∙◌, ◌∷◌, ◌≡◌, ◌⊎◌, cancel_wakes}
 use Rattle.machine_rules.proofs.{WalkParts.AtOps, WalkParts.answered_calls, WalkParts.answered_first, WalkParts.answered_fresh, WalkParts.answered_settled, WalkParts.answered_works, WalkParts.call_answers_walks, WalkParts.call_queues_walks, WalkParts.call_resumes_walks, WalkParts.call_stops_walks, WalkParts.cancel_goes_behind_walks, WalkParts.cancel_stops_walks, WalkParts.checked_walks, WalkParts.enter_gives, WalkParts.enter_runs_walks, WalkParts.event_taken_walks, WalkParts.finished_calls, WalkParts.finished_fresh, WalkParts.finished_works, WalkParts.picked_event_is, WalkParts.picked_event_none, WalkParts.join_walks, WalkParts.joined_ended, WalkParts.parted_answers_walks, WalkParts.parted_takes_walks, WalkParts.put_back_walks, WalkParts.received_walks, WalkParts.rejoined, WalkParts.stopped_walks, WalkParts.wait_stops_walks, WalkParts.withdrawn_walks, WalkParts.withdraws, WalkParts.work_deleted_walks, WalkTask.CanFinish, WalkTask.Leads, WalkTask.answered_walks, WalkTask.finished_walks, WalkTask.goes_on, WalkTask.goes_on_told, WalkTask.goes_over, WalkTask.is_plain, WalkTask.is_still, WalkTask.may_leads, WalkTask.or_never_leads, WalkTask.or_trap_leads, WalkTask.over_now, WalkTask.running_scene, WalkTask.stops_here, WalkTask.trap_if_leads, WalkTask.unnot}
+use Rattle.std.specs.Prelude.{filter, ◌&&◌, ◌||◌}
+use Rattle.machine_rules.specs.Allowed.{MayDeliver}
+use Rattle.std.proofs.lemmas.Bool.{eqb-true}
+use Rattle.machine_data.specs.Maps.{numbers}
 
 -- ---- What the rules read
 
@@ -67,6 +77,88 @@ ready_at (Some _) e = absurd (grind arith)
 
 -- ---- The rules
 
+-- ---- The threads that a cancel may take
+
+among_filter : (P : ℕ → Bool) (m : ℕ) (ns : List ℕ) → is_among m (filter P ns) ≡ true → P m ≡ true
+among_filter P m [] there = absurd (cc)
+among_filter P m (n ∷ ns) there = by (among_filter P m ns) (P n) refl there
+  where
+    at : (is_among m (filter P ns) ≡ true → P m ≡ true) → (b : Bool) → (m == n) ≡ b → P n ≡ true → (b || is_among m (filter P ns)) ≡ true → P m ≡ true
+    at rest true same passes h = subst (λ (k : ℕ). P k ≡ true) (sym (eqb-true m n same)) passes
+    at rest false same passes h = rest h
+
+    by : (is_among m (filter P ns) ≡ true → P m ≡ true) → (b : Bool) → P n ≡ b → is_among m (if b then n ∷ filter P ns else filter P ns) ≡ true → P m ≡ true
+    by rest true passes h = at rest (m == n) refl passes h
+    by rest false fails h = rest h
+
+callback_waits : (m : ℕ) (s : Core) → is_callback_waiter m s ≡ true → is_at m s is_waiting ≡ true
+callback_waits m s is = by (place_of m s) is
+  where
+    by : (o : Option Place) → option_map_or waits_by_callback o false ≡ true → option_map_or is_waiting o false ≡ true
+    by (Some (Place.Waiting x b)) h = refl
+    by _ h = absurd (cc)
+
+pub cancellable_waits : (k m : ℕ) (s : Core) → is_among m (cancellable k s) ≡ true → is_at m s is_waiting ≡ true
+cancellable_waits k m s = by (waits_cancellable k s)
+  where
+    one : (b : Bool) → is_callback_waiter k s ≡ b → is_among m (if b then k ∷ [] else []) ≡ true → is_at m s is_waiting ≡ true
+    one true is h = subst (λ (j : ℕ). is_at j s is_waiting ≡ true) (sym (eqb-true m k (grind (arith, h)))) (callback_waits k s is)
+    one false is h = absurd (cc)
+
+    by : (b : Bool) → is_among m (if b then waiting_in k s else waiting_callback k s) ≡ true → is_at m s is_waiting ≡ true
+    by true h = (and_parts _ _ (among_filter (is_waiting_of k s) m (numbers s.threads) h)).1
+    by false h = one (is_callback_waiter k s) refl h
+
+-- ---- What a cancel's case says of the call
+
+abbrev case_for : (ended started asked none yields : Bool) → CancelCase
+case_for ended started asked none yields =
+    if ended then AlreadyEnded else
+    if not started then StartNotRun else
+    if asked then AskedBefore else
+    if not none then ThreadWaits else
+    if yields then CallbackYields else OtherwiseRuns
+
+unrun_case : (ended started asked none yields : Bool) → case_for ended started asked none yields ≡ StartNotRun → (ended ≡ false) × (started ≡ false)
+unrun_case true b c d e is = absurd (cc)
+unrun_case false false c d e is = (refl, refl)
+unrun_case false true true d e is = absurd (cc)
+unrun_case false true false false e is = absurd (cc)
+unrun_case false true false true true is = absurd (cc)
+unrun_case false true false true false is = absurd (cc)
+
+yields_case : (ended started asked none yields : Bool) → case_for ended started asked none yields ≡ CallbackYields → yields ≡ true
+yields_case true b c d e is = absurd (cc)
+yields_case false false c d e is = absurd (cc)
+yields_case false true true d e is = absurd (cc)
+yields_case false true false false e is = absurd (cc)
+yields_case false true false true true is = refl
+yields_case false true false true false is = absurd (cc)
+
+-- the call has begun, and hasn't ended
+abbrev goes_further : CancelCase → Bool
+goes_further AlreadyEnded = false
+goes_further StartNotRun = false
+goes_further _ = true
+
+going_case : (ended started asked none yields : Bool) (x : CancelCase) → case_for ended started asked none yields ≡ x → goes_further x ≡ true → (ended ≡ false) × (started ≡ true)
+going_case true b c d e x is goes = absurd (let bad : false ≡ true = ap (λ y. goes_further y) is ∙ goes in cc)
+going_case false false c d e x is goes = absurd (let bad : false ≡ true = ap (λ y. goes_further y) is ∙ goes in cc)
+going_case false true c d e x is goes = (refl, refl)
+
+module _ (k : ℕ) (s : Core) where
+  abbrev was_asked_before : Bool
+  was_asked_before = is_second s.version && cancel_was_asked k s
+
+  unrun_call : cancel_case k s ≡ StartNotRun → (has_ended k s ≡ false) × (was_started k s ≡ false)
+  unrun_call is = unrun_case (has_ended k s) (was_started k s) was_asked_before (is_nil (cancellable k s)) (is_at k s is_callback_yield) is
+
+  yielding_call : cancel_case k s ≡ CallbackYields → is_at k s is_callback_yield ≡ true
+  yielding_call is = yields_case (has_ended k s) (was_started k s) was_asked_before (is_nil (cancellable k s)) (is_at k s is_callback_yield) is
+
+  going_call : (x : CancelCase) → cancel_case k s ≡ x → goes_further x ≡ true → (has_ended k s ≡ false) × (was_started k s ≡ true)
+  going_call x is goes = going_case (has_ended k s) (was_started k s) was_asked_before (is_nil (cancellable k s)) (is_at k s is_callback_yield) x is goes
+
 module _ (d : Doer) (ops : ℕ → Op) (x : Setting) (main : Main) (s : Core) (n : ℕ) (l : Label) (next : Turn) (on : CanFinish d (running_scene ops x main s n l next) s n) where
   abbrev a : Scene
   a = running_scene ops x main s n l next
@@ -94,14 +186,23 @@ module _ (d : Doer) (ops : ℕ → Op) (x : Setting) (main : Main) (s : Core) (n
       (λ sub e out. said_is (HandsOut a t) (sym h ∙ out) (HandsAtOnce (next_work s) ready (ap (λ (y : Label). written_as ops s y t) is ∙ w)))
 
   -- what an op on a set hands out is the member's event
-  picked_event_out : (y : ℕ) (ch : Choice) (g : PickedEvent) (u : Core) → picked_event false (task_of n s) y (chosen n ch s) s ≡ Some g → (sub : Subtask) (e : Status) → handed_by_event n s (handed_out ch s g) ≡ Some (end_for e sub) → HandsOut a (received_by d n g (handed_out ch s g) u) sub e
-  picked_event_out y ch g u h = given_out false n (task_of n s) y ch g (task_of n u) u h (finished_calls d n (OneEvent (handed_out ch s g)) (taken g (task_of n u) u)) (finished_works d n (OneEvent (handed_out ch s g)) (taken g (task_of n u) u))
+  picked_event_out : (by : Bool) (y : ℕ) (ch : Choice) (g : PickedEvent) (u : Core) → picked_event by (task_of n s) y (chosen n ch s) s ≡ Some g → (sub : Subtask) (e : Status) → handed_by_event n s (handed_out ch s g) ≡ Some (end_for e sub) → HandsOut a (received_by d n g (handed_out ch s g) u) sub e
+  picked_event_out by y ch g u h = given_out by n (task_of n s) y ch g (task_of n u) u h (finished_calls d n (OneEvent (handed_out ch s g)) (taken g (task_of n u) u)) (finished_works d n (OneEvent (handed_out ch s g)) (taken g (task_of n u) u))
 
   -- ---- Sets
 
-  -- a thread that isn't taken takes no Cancelled
-  takes : (y : ℕ) (ch : Choice) (g : PickedEvent) → picked_event false (task_of n s) y (chosen n ch s) s ≡ Some g → MayTake a (task_of n s) g
-  takes y ch g e = picked_event_is a n false y ch g refl (λ f o. absurd (subst T (sym f) tt)) e
+  -- of threads that aren't taken only one that waits so takes Cancelled
+  abbrev MayTakeCancelled : Bool → Type 0
+  MayTakeCancelled by = by ≡ true → task_event_of (task_of n s) s ≡ Some TaskEvent.Cancelled → MayDeliver a (task_of n s)
+
+  takes : (by : Bool) → MayTakeCancelled by → (y : ℕ) (ch : Choice) (g : PickedEvent) → picked_event by (task_of n s) y (chosen n ch s) s ≡ Some g → MayTake a (task_of n s) g
+  takes by can y ch g e = picked_event_is a n by y ch g refl can e
+
+  never_cancelled : MayTakeCancelled false
+  never_cancelled f o = absurd (subst T (sym f) tt)
+
+  waits_cancelled : is_wait (op_in a n) ≡ true → MayTakeCancelled (waits_cancellable (task_of n s) s)
+  waits_cancelled can f o = (n, (refl, (refl, (inr (can, f), o))))
 
   wait_begins_leads : (h : ℕ) (ch : Choice) (y : ℕ) (b : Bool) → finds_nothing n y s ≡ b → is_wait (op_in a n) ≡ true → set_at (instance_of n s) h s ≡ Some y → Leads a s (wait_begins_by d n ch s y b)
   unfolding wait_stops_checked finds_nothing
@@ -109,29 +210,29 @@ module _ (d : Doer) (ops : ℕ → Op) (x : Setting) (main : Main) (s : Core) (n
       trap_if_leads a s (not (passes_check (instance_of n s) s)) Trap.CannotBlockSyncTask _ (λ e.
       stop _ (wait_stops_checked n y s) refl (λ leave. wait_stops_walks n refl at_ops y can leave (BySetHandle h named) (shifted_ready (shifts_shifted (checked_shifts (instance_of n s) s)) y ∙ grind arith) (checked_walks n refl (instance_of n s) NoPrimitive)))
   wait_begins_leads h ch y false nothing can named =
-      or_never_leads a s (picked_event false (task_of n s) y (chosen n ch s) s) _ (λ g e.
-      told (Label.Set (SetLabel.Wait (handed_out ch s g) n)) (received_by d n g (handed_out ch s g) s) refl (λ is. hands_by a _ is refl refl (picked_event_out y ch g s e)) (λ is. received_walks n refl d on g (handed_out ch s g) (takes y ch g e) NoPrimitive))
+      or_never_leads a s (picked_event (waits_cancellable (task_of n s) s) (task_of n s) y (chosen n ch s) s) _ (λ g e.
+      told (Label.Set (SetLabel.Wait (handed_out ch s g) n)) (received_by d n g (handed_out ch s g) s) refl (λ is. hands_by a _ is refl refl (picked_event_out (waits_cancellable (task_of n s) s) y ch g s e)) (λ is. received_walks n refl d on g (handed_out ch s g) (takes (waits_cancellable (task_of n s) s) (waits_cancelled can) y ch g e) NoPrimitive))
 
-  received_leads : (y : ℕ) (ch : Choice) (g : PickedEvent) → picked_event false (task_of n s) y (chosen n ch s) s ≡ Some g → Leads a s (may (may_hand_on y g ch.woken s) (Continues (wait_label n (handed_out ch s g) ch.woken) (received_woken_by d n y ch.woken g (handed_out ch s g) s) n))
-  received_leads y ch g e =
+  received_leads : is_wait (op_in a n) ≡ true → (y : ℕ) (ch : Choice) (g : PickedEvent) → picked_event (waits_cancellable (task_of n s) s) (task_of n s) y (chosen n ch s) s ≡ Some g → Leads a s (may (may_hand_on y g ch.woken s) (Continues (wait_label n (handed_out ch s g) ch.woken) (received_woken_by d n y ch.woken g (handed_out ch s g) s) n))
+  received_leads can y ch g e =
       may_leads a s (may_hand_on y g ch.woken s) _ (λ may.
       let moves : Shifts s (handed_on y g ch.woken s) = handed_on_shifts y g ch.woken s may in
       told (wait_label n (handed_out ch s g) ch.woken) (received_woken_by d n y ch.woken g (handed_out ch s g) s) (grind arith)
       (says ch.woken)
-      (λ is. received_walks n refl d on g (handed_out ch s g) (subst (λ (k : ℕ). MayTake a k g) (sym (shifted_task (shifts_shifted moves) n)) (takes y ch g e)) (shifted moves NoPrimitive)))
+      (λ is. received_walks n refl d on g (handed_out ch s g) (subst (λ (k : ℕ). MayTake a k g) (sym (shifted_task (shifts_shifted moves) n)) (takes (waits_cancellable (task_of n s) s) (waits_cancelled can) y ch g e)) (shifted moves NoPrimitive)))
     where
       -- only a wake that is handed on is shown
       says : (w : Option ℕ) → l ≡ wait_label n (handed_out ch s g) w → EndPrimitives a (received_woken_by d n y w g (handed_out ch s g) s)
       says (Some z) is = mute_primitives a _ is refl
-      says None is = hands_by a _ is refl refl (picked_event_out y ch g (handed_on y g None s) e)
+      says None is = hands_by a _ is refl refl (picked_event_out (waits_cancellable (task_of n s) s) y ch g (handed_on y g None s) e)
 
-  wait_goes_on_leads : (y : ℕ) (ch : Choice) (g : PickedEvent) → is_wait (op_in a n) ≡ true → op_progress_of n s ≡ OpProgress.Waits y → picked_event false (task_of n s) y (chosen n ch s) s ≡ Some g → Leads a s (wait_goes_on_by d n y ch s g)
-  wait_goes_on_leads y ch NothingPicked can far e = stop _ (wait_stops n y s) refl (λ leave. wait_stops_walks n refl at_ops y can leave (ByWait far) (picked_event_none false (task_of n s) y (chosen n ch s) s e) NoPrimitive)
-  wait_goes_on_leads y ch (PickedTaskEvent v) can far e = received_leads y ch (PickedTaskEvent v) e
-  wait_goes_on_leads y ch (PickedMember sub) can far e = received_leads y ch (PickedMember sub) e
+  wait_goes_on_leads : (y : ℕ) (ch : Choice) (g : PickedEvent) → is_wait (op_in a n) ≡ true → op_progress_of n s ≡ OpProgress.Waits y → picked_event (waits_cancellable (task_of n s) s) (task_of n s) y (chosen n ch s) s ≡ Some g → Leads a s (wait_goes_on_by d n y ch s g)
+  wait_goes_on_leads y ch NothingPicked can far e = stop _ (wait_stops n y s) refl (λ leave. wait_stops_walks n refl at_ops y can leave (ByWait far) (picked_event_none (waits_cancellable (task_of n s) s) (task_of n s) y (chosen n ch s) s e) NoPrimitive)
+  wait_goes_on_leads y ch (PickedTaskEvent v) can far e = received_leads can y ch (PickedTaskEvent v) e
+  wait_goes_on_leads y ch (PickedMember sub) can far e = received_leads can y ch (PickedMember sub) e
 
   wait_rule_leads : (h : ℕ) (ch : Choice) (f : OpProgress) → is_wait (op_in a n) ≡ true → op_progress_of n s ≡ f → Leads a s (wait_rule d n h ch s f)
-  wait_rule_leads h ch (OpProgress.Waits y) can far = or_never_leads a s (picked_event false (task_of n s) y (chosen n ch s) s) _ (λ g e. wait_goes_on_leads y ch g can far e)
+  wait_rule_leads h ch (OpProgress.Waits y) can far = or_never_leads a s (picked_event (waits_cancellable (task_of n s) s) (task_of n s) y (chosen n ch s) s) _ (λ g e. wait_goes_on_leads y ch g can far e)
   wait_rule_leads h ch _ can far = or_trap_leads a s (set_at (instance_of n s) h s) Trap.BadHandle _ (λ y named. wait_begins_leads h ch y (finds_nothing n y s) refl can named)
 
   joined_walks : (sub : Subtask) (y w : Option ℕ) (o : Option Status) (t : Core) → t.threads ≡ s.threads → may_wake_new o y w s ≡ true → Keep a s t → Keep a s (wakes_joined o y w t)
@@ -165,7 +266,7 @@ module _ (d : Doer) (ops : ℕ → Op) (x : Setting) (main : Main) (s : Core) (n
   set_rule_leads ch (SetOp.Poll r v) is =
       or_trap_leads a s (set_at (instance_of n s) (value_of n s v) s) Trap.BadHandle _ (λ y named.
       or_never_leads a s (picked_event false (task_of n s) y (chosen n ch s) s) _ (λ g e.
-      told (Label.Set (SetLabel.Poll (handed_out ch s g) n)) (received_by d n g (handed_out ch s g) s) refl (λ is. hands_by a _ is refl refl (picked_event_out y ch g s e)) (λ is. received_walks n refl d on g (handed_out ch s g) (takes y ch g e) NoPrimitive)))
+      told (Label.Set (SetLabel.Poll (handed_out ch s g) n)) (received_by d n g (handed_out ch s g) s) refl (λ is. hands_by a _ is refl refl (picked_event_out false y ch g s e)) (λ is. received_walks n refl d on g (handed_out ch s g) (takes false never_cancelled y ch g e) NoPrimitive)))
   set_rule_leads ch (SetOp.Join v y) is = or_trap_leads a s (subtask_at (instance_of n s) (value_of n s v) s) Trap.BadHandle _ (λ sub named. join_to_leads (ap is_join is) (value_of n s v) (value_of n s y) ch.woken sub named)
 
   -- ---- Calls
@@ -411,12 +512,12 @@ module _ (d : Doer) (ops : ℕ → Op) (x : Setting) (main : Main) (s : Core) (n
       stop (pauses n) (cancel_stops n sub u) refl (λ leave. subst (λ (v : Core). Trip a s v) (sym (rejoined n sub t)) (cancel_stops_walks n refl at_ops sub joined by leave (inr far) free (sym (joined_ended sub Join.Nowhere t) ∙ over) c)))
 
   asked_behind : (k : ℕ) (t : Core) (j f : ℕ) → place_of j (cancel_asks k t) ≡ Some (Place.Behind f) → place_of j t ≡ Some (Place.Behind f)
-  unfolding cancel_asks set_task_event on_call
+  unfolding cancel_asks set_task_event set_cancel_asked on_call
   asked_behind k t j f at = at
 
   asks_walks : (k h : ℕ) → subtask_at (instance_of n s) h s ≡ Some (Subtask.Guest k) → (has_ended k s ≡ false) × (was_started k s ≡ true) → Keep a s (cancel_asks k s)
   unfolding cancel_asks
-  asks_walks k h named says = primitive (SetTaskEvent k (Some TaskEvent.Cancelled)) (inl (refl, ((n, (h, (refl, named))), (says.1, says.0)))) NoPrimitive
+  asks_walks k h named says = primitive (SetCancelAsked k) tt (primitive (SetTaskEvent k (Some TaskEvent.Cancelled)) (inl (refl, ((n, (h, (refl, named))), (says.1, says.0)))) NoPrimitive)
 
   withdrawn_low : (d : Doer) → CanFinish d a s n → (k : ℕ) (e : CallEnd) → CanFinish d a (call_ends k e (after_primitive (Withdraw k) s)) n
   unfolding on_call remove_thread
@@ -452,22 +553,24 @@ module _ (d : Doer) (ops : ℕ → Op) (x : Setting) (main : Main) (s : Core) (n
       by false = ap (λ u. option_map_or (λ c. c.join) (get u k) Join.Nowhere) (shifted_calls (placing_shifted (Promote m) t))
 
   cancel_guest_leads : (mode : Mode) (h k : ℕ) (y : CancelCase) → CancelOp mode → cancelled_of_op ops n s (op_progress_of n s) ≡ Some (Subtask.Guest k) → cancel_case k s ≡ y → subtask_at (instance_of n s) h s ≡ Some (Subtask.Guest k) → is_joined (join_of (Subtask.Guest k) s) ≡ false → Leads a s (cancel_guest_by d mode n k s y)
-  unfolding cancel_wakes_callback cancel_promotes_yield cancel_asks set_task_event on_call
+  unfolding cancel_wakes cancel_promotes_yield cancel_asks set_task_event set_cancel_asked on_call
   cancel_guest_leads mode h k AlreadyEnded by target is named free = cancel_ended_rule_leads mode (Subtask.Guest k) s (undelivered_end (event_of (Subtask.Guest k) s)) target refl (inl (h, named)) NoPrimitive
   cancel_guest_leads mode h k StartNotRun by target is named free =
-      let says : (has_ended k s ≡ false) × (was_started k s ≡ false) = (grind (arith, is), grind (arith, is)) in
+      let says = unrun_call k s is in
       goes_on_told ops x main s n l next (cancel_label mode n 3) (answered_by d n 3 (withdrawn k s)) (grind arith)
       (λ at to. withdraw_says mode k to at target (n, (h, (refl, named))) says.0)
       (λ at. answered_walks n refl d on 3 (withdrawn_walks n refl k (n, (refl, ((n, (h, (refl, named))), (says.1, (says.0, (refl, says.1)))))) (λ j f behind. behind) (ap (λ (y : Label). written_as ops s y s) at ∙ ((cancel_is mode 3 s).0 ∙ ap (option_map (end_for Status.StartCancelled)) target)) NoPrimitive))
-  cancel_guest_leads mode h k CallbackWaits by target is named free =
-      let asks = asks_walks k h named (grind (arith, is), grind (arith, is)) in
-      stop (pauses n) (cancel_wakes_callback n k s) refl (λ leave. cancel_goes_behind_walks n refl at_ops k (put_stands k (Why.Delivery Delivery.Cancel) (cancel_asks k s)) (ap (λ m. option_map_or (λ c. c.join) (get m k) Join.Nowhere) (shifted_calls (placing_shifted (Put Mark.Switch k (Why.Delivery Delivery.Cancel)) (cancel_asks k s))) ∙ grind (arith, nat_tests, get-change)) (cancels mode by) leave (inl (h, named)) free
-      (placed (Put Mark.Switch k (Why.Delivery Delivery.Cancel)) (inr (Cancels (grind (arith, is)) refl, ((n, refl), asked_behind k s))) asks))
+  cancel_guest_leads mode h k AskedBefore by target is named free = tt
+  cancel_guest_leads mode h k ThreadWaits by target is named free = λ m among.
+      let asks = asks_walks k h named (going_call k s ThreadWaits is refl) in
+      let w = cancel_why (is_callback_waiter m s) in
+      stop (pauses n) (cancel_wakes n k m s) refl (λ leave. cancel_goes_behind_walks n refl at_ops k (put_stands m w (cancel_asks k s)) (ap (λ y. option_map_or (λ c. c.join) (get y k) Join.Nowhere) (shifted_calls (placing_shifted (Put Mark.Switch m w) (cancel_asks k s))) ∙ grind (arith, nat_tests, get-change)) (cancels mode by) leave (inl (h, named)) free
+      (placed (Put Mark.Switch m w) (inr (Cancels (cancellable_waits k m s among) refl, ((n, refl), asked_behind k s))) asks))
   cancel_guest_leads mode h k CallbackYields by target is named free =
-      let asks = asks_walks k h named (grind (arith, is), grind (arith, is)) in
+      let asks = asks_walks k h named (going_call k s CallbackYields is refl) in
       stop (pauses n) (cancel_promotes_yield n k s) refl (λ leave. cancel_goes_behind_walks n refl at_ops k (promoted_stands k (cancel_asks k s)) (promoted_join k k (cancel_asks k s) ∙ grind (arith, nat_tests, get-change)) (cancels mode by) leave (inl (h, named)) free
-      (promoted_walks n k refl (ready_at (place_of k s) (inr (grind (arith, is)))) asks))
-  cancel_guest_leads mode h k OtherwiseRuns by target is named free = cancel_by_end_leads mode (Subtask.Guest k) (cancel_asks k s) (subtask_ended (Subtask.Guest k) (cancel_asks k s)) by target (grind (arith, nat_tests, get-change)) (grind (arith, nat_tests, get-change)) (inl (h, named)) (inl free) refl (asks_walks k h named (grind (arith, is), grind (arith, is)))
+      (promoted_walks n k refl (ready_at (place_of k s) (inr (yielding_call k s is))) asks))
+  cancel_guest_leads mode h k OtherwiseRuns by target is named free = cancel_by_end_leads mode (Subtask.Guest k) (cancel_asks k s) (subtask_ended (Subtask.Guest k) (cancel_asks k s)) by target (grind (arith, nat_tests, get-change)) (grind (arith, nat_tests, get-change)) (inl (h, named)) (inl free) refl (asks_walks k h named (going_call k s OtherwiseRuns is refl))
 
   cancel_subtask_leads : (mode : Mode) (h : ℕ) (sub : Subtask) → CancelOp mode → cancelled_of_op ops n s (op_progress_of n s) ≡ Some sub → subtask_at (instance_of n s) h s ≡ Some sub → is_joined (join_of sub s) ≡ false → Leads a s (cancel_subtask_by d mode n s sub)
   unfolding cancel_aborts_host set_cancelled set_phase on_work

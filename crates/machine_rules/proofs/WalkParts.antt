@@ -1,6 +1,8 @@
 -- What the rules of the ops are made of, as chains of primitives: what is read, picked events, moves, and a new call.
-use Rattle.machine_rules.proofs.Walks.{add_call, add_thread, advanced, after_placing, after_primitive, answered, answered_by, ap, ap₂, arith, assigned, AtOp, behind_one, behind_switch, Blocks, Bool, ByHandle, ByOp, call_clears_flag, call_ends, call_instance, call_made, call_queues, call_resumes, call_settled, call_stops, Callee, callee_of_op, CallEnd, Caller, can_come, cancel_goes_behind, cancel_stops, Cancelling, change-change_same, checked, checked_shifts, Choice, chosen, Core, Doer, EndCall, Enter, enter_runs, event_of, ExportKind, false, finish, foot_of, get, get-change, get-insert, get-remove_same, PickedEvent, picked_event, give_thread_handle, Given, Goal, goal_of, GoBehind, Going, group_settled, group_settles, halted_at, has_ready_member, has_same, HasCalled, HasSet, HasSubtask, op_progress_of, OpProgress, inl, inr, instance_of, is_at_wait, is_begun, is_blocked_on, is_cancel, is_deletable, is_deletable_call, is_direct, is_ended_work, is_explicit, is_group_done, is_joined, is_none, is_running, is_some, is_sync_call, is_sync_cancel, is_wait, IsNew, IsRunner, IsWithdrawn, Join, join_of, Keep, keep_still, lands_at, Leaves, less_switch, List, MadeCounts, MakeCall, Mark, may_not_suspend, MayCancel, MayCome, MayDeliver, MayJoin, MayMakeCall, MayRemoveWork, MayTake, MayWithdraw, PickedMember, Move, moved_to, NameThread, nat_tests, next_thread, NoAnswer, NothingPicked, None, NoneCame, not, NoPrimitive, on_call, on_instance, on_thread, on_work, OneEvent, OneNumber, op_in, OpAnswer, Option, option_map_or, task_event_of, TaskEvent, PickedTaskEvent, OwnScript, Place, place_of, placed, placing_shifted, Put, put_back, put_switch, received, received_by, refl, remove_call, remove_group, remove_thread, remove_work, RemoveWork, saved_callee_of, says, SaysEnd, Scene, set_do_not_suspend, set_end, set_event, set_exited, set_given, set_high, set_op_progress, set_join, set_low, set_place, set_position, set_register, set_saved_callee, set_saved_own, set_started, set_switch, set_thread_handle, set_uninteresting, SetCallEvent, SetCallJoin, SetDoNotSuspend, SetExited, SetSavedCallee, SetSavedOwn, SetStarted, settle_group_of, settled, SetUninteresting, SetWorkJoin, Shifted, shifted, shifted_after, shifted_calls, shifted_explicit, shifted_made, shifted_ready, shifts_shifted, Some, SomeHost, Starts, Status, Stop, stopped, stopped_on, subst, Subtask, subtask_ended, subtask_under_way, sym, sync_sets_flag, taken_walks, TakesCalled, TakesCancelled, TakesNamed, TakeWorkEvent, task_of, Then, Thread, thread_group, Trip, true, Turn, undelivered_end, unqueued, unwrap_or, wait_stops, Waits, watches, Why, with_thread_handle, Withdraw, withdrawn, primitive, work_deleted, work_group, ℕ, ◌&&◌, ◌==◌, ◌∙◌, ◌≡◌, ◌⊎◌}
-use Rattle.machine_rules.proofs.WalkTask.{answered_walks, CanFinish, finished_walks, moved_passes}
+use Rattle.machine_rules.specs.Primitives.{Arrive}
+unfoldable use Rattle.machine_data.specs.Write.{arrive}
+use Rattle.machine_rules.proofs.Walks.{add_call, add_thread, advanced, after_placing, after_primitive, answered, answered_by, ap, ap₂, arith, assigned, AtOp, behind_one, behind_switch, Blocks, Bool, ByHandle, ByOp, call_clears_flag, call_ends, call_instance, call_made, call_queues, call_resumes, call_settled, call_stops, Callee, callee_of_op, CallEnd, Caller, can_come, cancel_goes_behind, cancel_stops, Cancelling, change-change_same, checked, checked_shifts, Choice, chosen, Core, Doer, EndCall, Enter, enter_runs, event_of, ExportKind, false, finish, foot_of, get, get-change, get-insert, get-remove_same, PickedEvent, picked_event, give_thread_handle, Given, Goal, goal_of, GoBehind, Going, group_settled, group_settles, halted_at, has_ready_member, has_same, HasCalled, HasSet, HasSubtask, op_progress_of, OpProgress, inl, inr, instance_of, is_at_wait, is_begun, is_blocked_on, is_cancel, is_deletable, is_deletable_call, is_direct, is_ended_work, is_explicit, is_group_done, is_joined, is_none, is_running, is_some, is_sync_call, is_sync_cancel, is_wait, IsNew, IsRunner, IsWithdrawn, Join, join_of, Keep, keep_still, lands_at, Leaves, less_switch, List, MadeCounts, MakeCall, Mark, may_not_suspend, MayCancel, MayCome, MayDeliver, MayJoin, MayMakeCall, MayRemoveWork, MayTake, MayWithdraw, PickedMember, Move, moved_to, NameThread, nat_tests, next_thread, NoAnswer, NothingPicked, None, NoneCame, not, NoPrimitive, on_call, on_instance, on_thread, on_work, OneEvent, OneNumber, op_in, OpAnswer, Option, option_map_or, task_event_of, TaskEvent, PickedTaskEvent, OwnScript, Place, place_of, placed, placing_shifted, Put, put_back, put_switch, received, received_by, refl, remove_call, remove_group, remove_thread, remove_work, RemoveWork, saved_callee_of, says, SaysEnd, Scene, set_do_not_suspend, set_end, set_event, set_exited, set_given, set_high, set_op_progress, set_join, set_low, set_place, set_position, set_register, set_saved_callee, set_saved_own, set_started, set_switch, set_thread_handle, set_uninteresting, SetCallEvent, SetCallJoin, SetDoNotSuspend, SetExited, SetSavedCallee, SetSavedOwn, SetStarted, settle_group_of, settled, SetUninteresting, SetWorkJoin, Shifted, shifted, shifted_after, shifted_calls, shifted_explicit, shifted_made, shifted_ready, shifts_shifted, Some, SomeHost, Starts, Status, Stop, stopped, stopped_on, subst, Subtask, subtask_ended, subtask_under_way, sym, sync_sets_flag, taken_walks, TakesCalled, TakesCancelled, TakesNamed, TakeWorkEvent, task_of, Then, Thread, thread_group, Trip, true, Turn, undelivered_end, unqueued, unwrap_or, wait_stops, Waits, watches, Why, with_thread_handle, Withdraw, withdrawn, primitive, work_deleted, work_group, ℕ, ◌&&◌, ◌==◌, ◌∙◌, ◌≡◌, ◌⊎◌, halted_on}
+use Rattle.machine_rules.proofs.WalkTask.{arrived_ready, answered_walks, CanFinish, finished_walks, moved_passes}
 
 -- ---- What is read
 
@@ -140,12 +142,16 @@ module _ {a : Scene} {b : Core} (n : ℕ) (is : IsRunner a n) where
   pub stopped_walks : (t : Core) → Leaves a n → Keep a b t → Keep a b (stopped (foot_of n t) t)
   stopped_walks t leave c = stopped_on (foot_of n t) leave.1.0 c
 
+  -- it comes after all that wait or are held
+  pub stopped_last_walks : (t : Core) → Leaves a n → Keep a b t → Keep a b (arrive n (stopped (foot_of n t) t))
+  stopped_last_walks t leave c = primitive (Arrive n) is (stopped_walks t leave c)
+
   pub checked_walks : (i : ℕ) {t : Core} → Keep a b t → Keep a b (checked i t)
   checked_walks i {t = t} c = shifted (checked_shifts i t) c
 
   pub wait_stops_walks : AtOps a b n → (y : ℕ) {t : Core} → is_wait (op_in a n) ≡ true → Leaves a n → HasSet a n y → has_ready_member y t ≡ false → Keep a b t → Trip a b (wait_stops n y t)
-  unfolding wait_stops
-  wait_stops_walks at y {t = t} can leave has none c = lands_at (Move n (Place.Waiting y false)) n (OpProgress.Waits y) (grind (arith, nat_tests)) (Waits y leave has (shifted_ready (placing_shifted (Stop (foot_of n t)) t) y ∙ none) refl) (leave, (has, (can, moved_passes (is_at_wait y) (Place.Waiting y false) (grind (arith, nat_tests)) n (stopped (foot_of n t) t)))) (at _ (stopped_walks t leave c)) can (halted_at n c) (stopped_walks t leave c)
+  unfolding wait_stops arrive on_thread
+  wait_stops_walks at y {t = t} can leave has none c = lands_at (Move n (Place.Waiting y false)) n (OpProgress.Waits y) (grind (arith, nat_tests)) (Waits y leave has (arrived_ready y n (stopped (foot_of n t) t) ∙ (shifted_ready (placing_shifted (Stop (foot_of n t)) t) y ∙ none)) refl) (leave, (has, (can, moved_passes (is_at_wait y) (Place.Waiting y false) (grind (arith, nat_tests)) n (arrive n (stopped (foot_of n t) t))))) (at _ (stopped_last_walks t leave c)) can (halted_on (halted_at n c) (primitive (Arrive n) is NoPrimitive)) (stopped_last_walks t leave c)
 
   pub join_walks : (sub : Subtask) (j : Join) {t : Core} → MayJoin a sub j t → Keep a b t → Keep a b (set_join sub j t)
   join_walks (Subtask.Guest k) j ok c = primitive (SetCallJoin k j) ok c

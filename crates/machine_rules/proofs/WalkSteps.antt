@@ -1,4 +1,5 @@
 -- Each step as a chain of primitives: host works, main, the loop and all turns.
+use Rattle.machine_rules.specs.Progress.{OneOf}
 use Rattle.machine_rules.proofs.Walks.{[], Abort, aborted_phase, act_of, add_group, add_work, AddGroup, advanced_main, Answer, ap, arith, Asked, Asks, at_turn, Await, base_at, base_without, Began, begun_holder, blocked_at, blocked_on, Bool, ByProgram, ByScript, call_answer, call_made, Callee, Caller, CallLabel, Chain, Choice, choice_of, chosen_in_of, Collapses, Core, count_work, Course, course_for, course_of, course_value, deadlock_trap, DeadlockStep, did, Does, EmptyFor, end_for, ended, Ends, EndTells, EndPrimitives, EndWork, Entry, entry_number, export_kind, Fails, FailsNow, Unwinds, false, Finish, finish_act, finish_result, finished_call, finished_is, FinishWork, followed, Frees, FuturesStep, get, get-change, get-insert, get-remove, get-remove_same, Goal, Continues, goes_open, goes_to, handed_by_main, hands_by, HandsOut, has_end, has_interesting, has_moving_work, heard, host_at, host_done, host_label, host_result, host_status, host_taken, HostDef, HostPoll, HostRulesAreWalks, inl, inr, is_aborted, is_async_work, is_complete, is_data_op, is_direct, is_exit_op, is_free, is_mute, is_none, is_open, is_ready_for_call, is_some, is_spawn, is_stage_ended, is_unended_take, IsUnwind, IsRunner, join, join_of, Keep, keep_stay, Label, LastPrimitives, length, line_of, List, LoopLabel, Main, main_aborted, main_outcome, main_rule, main_spawned, main_started, MainAct, MainLabel, MainOpDef, MainPlace, MainProgress, MainProgresses, MainStep, MakeCall, Mark, may, may_act, may_deadlock, may_publish, MayAbort, MayCall, MayFinish, mute_primitives, nat_tests, Never, next_entry, next_polled, next_thread, next_work, None, none_said, not, NoPrimitive, on_thread, on_work, Op, op_at, op_of, scripted_op_rule, op_rule, open_spawned, OpenAct, OpenProgresses, ops_of, Option, option_map, option_map_or, Ordered, Outcome, outcome_of_label, OwnScript, Pend, Pends, Phase, phase_of, Place, place_of, placed, Poll, poll_ends, poll_of, poll_pends, Polled, polled_again, polled_course, polled_in, Pop, popped, popped_shifted, position_of, ProgramAborts, Progress, Progresses, published_frees, published_shifts, push_high, pushed, Put, put_high, QueueWork, Quiet, Ready, refl, Refused, Remains, remove_thread, remove_threads, RemoveThread, RestStep, result_taken, RulesAreWalks, runner_at, said_is, SameMain, Scene, script_of, ScriptAborts, Scripted, ScriptStep, set_answer, set_course, set_event, set_high, set_low, set_phase, set_place, set_stage, set_switch, set_trapped, SetPhase, SetRegister, Setting, settled_turn, SetTrapped, shifted, Shifts, size, slice_get, Some, SomeHost, spares_of, Spawn, spawned_at, SpawnOpen, SpawnsNamed, Stage, stage_of, Start, start_act, start_of, start_refusal, Started, started_at, started_end, Starts, State, Status, stay_walk, Step, StepsAreWalks, still_first, StillPends, Stops, strand_from, strand_of, unwound, subst, Subtask, suc, sym, T, take_result, take_rule, TakeHost, TakeLabel, TakePush, TakeResult, takes_by, TakesResult, TakeStep, TellsLater, Then, Thread, thread_answer, thread_of_entry, Trap, trap_label, Traps, Trip, trip_walk, true, Turn, TurnStep, unblocked_shifts, unblocked_stuck, Unblocking, under_of, unless_pending, Unscripted, unwrap_or, Walk, WalkedAs, Why, woken_of, primitive, work_caller_of, work_queued, WorkCaller, Writes, writes_by, WritesPolled, zero, ℕ, ⊎_elim, ◌&&◌, ◌++◌, ◌+◌, ◌-◌, ◌∙◌, ◌∷◌, ◌≡◌, ◌≤◌, ◌⊎◌}
 use Rattle.machine_rules.proofs.{WalkOps.set_rule_leads, WalkOps.subtask_rule_leads, WalkOps.thread_rule_leads, WalkParts.Born, WalkParts.call_born, WalkTakes.thread_taken_leads, WalkTask.Leads, WalkTask.data_rule_leads, WalkTask.op_stands, WalkTask.running_scene, WalkTask.seen, WalkTask.task_rule_leads, WalkTask.under_place}
 use Rattle.machine_rules.specs.MainOps.{Answers}
@@ -405,6 +406,7 @@ module _ (x : Setting) (s : State) (l : Label) where
       by (Fails i) row h = unwinds_so (Label.Call (CallLabel.Fails n i)) refl refl h.0 h.1
       by Never row h = absurd h
       by (Ordered ns next) row h = by (next h.0) (λ v. row v h.0 h.1.0) h.1.1
+      by (OneOf ns next) row h = by (next h.0) (λ v. row v h.0 h.1.0) h.1.1
       by (Asks next) row h = by (next h.0) (λ v. row v h.0) h.1
 
   empty_walks : (ended : Bool) (b : Bool) (t : State) → EmptyFor x s b l t → WalkedBy (scene_at (Turn.Take ended) None) s.core s.main t

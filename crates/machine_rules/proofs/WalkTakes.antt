@@ -1,6 +1,8 @@
 -- The takings of entries as chains of primitives.
-use Rattle.machine_rules.proofs.Walks.{activated, activated_woken, admits, and_parts, ap, arith, at_handle_limit, begun_holder, Bool, chain_if, Choice, chosen, cond, Core, delivered, Delivery, delivery_rule, end_for, end_of, EndPrimitives, event_label, ExportKind, false, foot_of, get, get-change, PickedEvent, picked_event, give_thread_handle, Given, given_for, given_out, Continues, Halted, halted_at, Halts, handed_by_event, handed_on, handed_on_shifts, handed_out, hands_by, HandsOut, held_label, holder_at_start, Holds, if◌then◌else◌, inl, inr, instance_of, is_begun, is_exit, is_explicit, is_free, is_holding, is_mute, is_none, is_running, is_some, is_start, is_told, IsLaid, Keep, kind_of, Label, lands, lands_alone, LastPrimitives, leaving, Main, Mark, may, may_hand_on, may_not_enter, may_tell, may_tell_starting, MayDeliver, MayMove, MayTake, PickedMember, Move, moved_to, mute_primitives, NameThread, nat_tests, NothingPicked, None, none_said, not, NoPrimitive, on_call, on_instance, on_thread, Op, Option, option_map_or, outcome_of_label, own_delivered, task_event_of, picked_task_event_of, picked_task_event_only, own_or_nothing, TaskEvent, PickedTaskEvent, Place, place_of, placing_shifted, refl, Restart, running, Runs, Scene, Script, set_delivered, set_do_not_enter, set_do_not_suspend, set_event, set_given, set_op_progress, set_place, set_position, set_register, set_saved_own, set_script, set_started, set_starting_published, set_thread_handle, SetDoNotEnter, SetStarted, SetStartingPublished, Setting, shifted, shifted_admits, shifted_calls, shifted_instance, shifted_ready, shifted_task, shifts_shifted, Some, start_admitted, start_begins, start_holds, start_rule, start_sets_flags, starting_is_published, starting_told, Status, Stop, stopped, stopped_on, Stops, subst, Subtask, sym, T, take_holds, take_label, TakeLabel, taken, taken_walks, taking, task_of, thread_taken, told, told_shifts, told_to, told_walks, ToldTo, Trap, true, Turn, unwrap_or, wait_again, WaitsAgain, was_started, WasReady, Why, with_thread_handle, primitive, ℕ, ◌&&◌, ◌∙◌, ◌≡◌}
-use Rattle.machine_rules.proofs.{WalkParts.picked_event_is, WalkParts.picked_event_none, WalkParts.sync_sets_flag_walks, WalkTask.Leads, WalkTask.may_leads, WalkTask.moved_passes, WalkTask.not_main, WalkTask.one_runner, WalkTask.or_never_leads, WalkTask.seen, WalkTask.set_given_walks, WalkTask.trap_if_leads}
+use Rattle.machine_rules.specs.Primitives.{Arrive}
+unfoldable use Rattle.machine_data.specs.Write.{arrive}
+use Rattle.machine_rules.proofs.Walks.{activated, activated_woken, admits, and_parts, ap, arith, at_handle_limit, begun_holder, Bool, chain_if, Choice, chosen, cond, Core, delivered, Delivery, delivery_rule, end_for, end_of, EndPrimitives, event_label, ExportKind, false, foot_of, get, get-change, PickedEvent, picked_event, give_thread_handle, Given, given_for, given_out, Continues, Halted, halted_at, Halts, handed_by_event, handed_on, handed_on_shifts, handed_out, hands_by, HandsOut, held_label, holder_at_start, Holds, if◌then◌else◌, inl, inr, instance_of, is_begun, is_exit, is_explicit, is_free, is_holding, is_mute, is_none, is_running, is_some, is_start, is_told, IsLaid, Keep, kind_of, Label, lands, lands_alone, LastPrimitives, leaving, Main, Mark, may, may_hand_on, may_not_enter, may_tell, may_tell_starting, MayDeliver, MayMove, MayTake, PickedMember, Move, moved_to, mute_primitives, NameThread, nat_tests, NothingPicked, None, none_said, not, NoPrimitive, on_call, on_instance, on_thread, Op, Option, option_map_or, outcome_of_label, own_delivered, task_event_of, picked_task_event_of, picked_task_event_only, own_or_nothing, TaskEvent, PickedTaskEvent, Place, place_of, placing_shifted, refl, Restart, running, Runs, Scene, Script, set_delivered, set_do_not_enter, set_do_not_suspend, set_event, set_given, set_op_progress, set_place, set_position, set_register, set_saved_own, set_script, set_started, set_starting_published, set_thread_handle, SetDoNotEnter, SetStarted, SetStartingPublished, Setting, shifted, shifted_admits, shifted_calls, shifted_instance, shifted_ready, shifted_task, shifts_shifted, Some, start_admitted, start_begins, start_holds, start_rule, start_sets_flags, starting_is_published, starting_told, Status, Stop, stopped, stopped_on, Stops, subst, Subtask, sym, T, take_holds, take_label, TakeLabel, taken, taken_walks, taking, task_of, thread_taken, told, told_shifts, told_to, told_walks, ToldTo, Trap, true, Turn, unwrap_or, wait_again, WaitsAgain, was_started, WasReady, Why, with_thread_handle, primitive, ℕ, ◌&&◌, ◌∙◌, ◌≡◌, halted_on}
+use Rattle.machine_rules.proofs.{WalkTask.arrived_ready, WalkParts.picked_event_is, WalkParts.picked_event_none, WalkParts.sync_sets_flag_walks, WalkTask.Leads, WalkTask.may_leads, WalkTask.moved_passes, WalkTask.not_main, WalkTask.one_runner, WalkTask.or_never_leads, WalkTask.seen, WalkTask.set_given_walks, WalkTask.trap_if_leads}
 
 -- ---- What is read
 
@@ -58,6 +60,11 @@ starting_now k s told = grind (arith, nat_tests, get-change)
 
 -- ---- The thread that is taken
 
+-- a thread that comes after all that wait or are held is admitted as before
+arrived_admits : (n : ℕ) (w : Why) (s : Core) → admits n (arrive n s) w ≡ admits n s w
+unfolding arrive on_thread
+arrived_admits n w s = grind (arith, nat_tests, get-change)
+
 module _ (ops : ℕ → Op) (x : Setting) (main : Main) (ended : Bool) (s : Core) (n : ℕ) (l : Label) (next : Turn) where
   abbrev pub taking_scene : Scene
   taking_scene = seen ops x main (Turn.Take ended) s n l next
@@ -87,7 +94,7 @@ module _ (ops : ℕ → Op) (x : Setting) (main : Main) (ended : Bool) (s : Core
 
   holds_leads : (k : Label) (w : Why) (t : Core) → is_taking k ≡ true → is_mute taking_scene (take_holds n w t) k ≡ true → begun_holder s k ≡ None → WasReady taking_scene n w → admits n t w ≡ false → Keep taking_scene s t → Leads taking_scene s (Stops k (take_holds n w t))
   unfolding take_holds
-  holds_leads k w t taking mute none ready out c = lays_taken k (Place.Held w) (stopped (foot_of n t) t) taking mute refl refl (λ i begun. none_said none begun) refl (λ leave. Holds w leave ready (shifted_admits (placing_shifted (Stop (foot_of n t)) t) n w ∙ out) refl) (λ to. (stopped_on (foot_of n t) to c, halted_at n c))
+  holds_leads k w t taking mute none ready out c = lays_taken k (Place.Held w) (arrive n (stopped (foot_of n t) t)) taking mute refl refl (λ i begun. none_said none begun) refl (λ leave. Holds w leave ready (arrived_admits n w (stopped (foot_of n t) t) ∙ shifted_admits (placing_shifted (Stop (foot_of n t)) t) n w ∙ out) refl) (λ to. (primitive (Arrive n) refl (stopped_on (foot_of n t) to c), halted_on (halted_at n c) (primitive (Arrive n) refl NoPrimitive)))
 
   -- ---- Starts
 
@@ -206,13 +213,13 @@ module _ (ops : ℕ → Op) (x : Setting) (main : Main) (ended : Bool) (s : Core
       activated_goes m (Delivery.Set y) ready g (handed_out ch s g) ch.woken (handed_on y g ch.woken s) (event_says m (handed_out ch s g) ch.woken _ (delivered_out y ch g ch.woken h0)) (shifted_instance h n) (subst (λ (k : ℕ). MayTake taking_scene k g) (sym (shifted_task h n)) ok) open_at (shifted d NoPrimitive))
 
   set_delivered_leads : (m : Mark) (y : ℕ) (ch : Choice) (g : PickedEvent) → picked_event true (task_of n s) y (chosen n ch s) s ≡ Some g → WasReady taking_scene n (Why.Delivery (Delivery.Set y)) → MayTake taking_scene (task_of n s) g → may_not_enter (instance_of n s) s ≡ false → Leads taking_scene s (set_delivered m n y ch s g)
-  unfolding wait_again
-  set_delivered_leads m y ch NothingPicked h0 ready ok open_at = lays_taken (Label.Take (TakeLabel.Again m n)) (Place.Waiting y true) (stopped (foot_of n s) s) refl refl refl refl (λ i begun. none_said refl begun) refl (λ leave. WaitsAgain y leave ready (shifted_ready (placing_shifted (Stop (foot_of n s)) s) y ∙ picked_event_none true (task_of n s) y (chosen n ch s) s h0) refl) (λ to. (stopped_on (foot_of n s) to NoPrimitive, halted_at n NoPrimitive))
+  unfolding wait_again arrive on_thread
+  set_delivered_leads m y ch NothingPicked h0 ready ok open_at = lays_taken (Label.Take (TakeLabel.Again m n)) (Place.Waiting y true) (arrive n (stopped (foot_of n s) s)) refl refl refl refl (λ i begun. none_said refl begun) refl (λ leave. WaitsAgain y leave ready (arrived_ready y n (stopped (foot_of n s) s) ∙ (shifted_ready (placing_shifted (Stop (foot_of n s)) s) y ∙ picked_event_none true (task_of n s) y (chosen n ch s) s h0)) refl) (λ to. (primitive (Arrive n) refl (stopped_on (foot_of n s) to NoPrimitive), halted_on (halted_at n NoPrimitive) (primitive (Arrive n) refl NoPrimitive)))
   set_delivered_leads m y ch (PickedTaskEvent v) h0 ready ok open_at = woken_goes m y ch (PickedTaskEvent v) ready h0 ok open_at
   set_delivered_leads m y ch (PickedMember sub) h0 ready ok open_at = woken_goes m y ch (PickedMember sub) ready h0 ok open_at
 
   delivers : (d : Delivery) → WasReady taking_scene n (Why.Delivery d) → task_event_of (task_of n s) s ≡ Some TaskEvent.Cancelled → MayDeliver taking_scene (task_of n s)
-  delivers d ready own = (n, (refl, (refl, ((d, ready), own))))
+  delivers d ready own = (n, (refl, (refl, (inl (d, ready), own))))
 
   own_taken : (d : Delivery) → WasReady taking_scene n (Why.Delivery d) → (o : Option TaskEvent) → picked_task_event_of true (task_of n s) s ≡ o → MayTake taking_scene (task_of n s) (own_or_nothing o)
   own_taken d ready None at = tt

@@ -1,6 +1,10 @@
 -- The rules of ops as chains of primitives: what a rule owes, the ops on registers and memory cells, and the ops that end a task or
 -- an activation.
-use Rattle.machine_rules.proofs.Walks.{[], Advance, advanced, and_parts, answered, answered_by, ap, ap₂, arith, Asks, assigned, AwaitsEvent, backpressure_of, begun_holder, blocking_exit_rule, blocking_exits, blocking_returned, Bool, both_none, BySetHandle, Call, call_ends, CallEnd, Caller, cancel_was_delivered, cancelled, cancelled_rest, cancelled_tells, checked, checked_shifts, Choice, chosen_released, code_exits, code_finds, code_kind_rule, code_rule, code_stops, code_wait_rule, code_waits, code_yields, ComesAgain, Component, component_of, Core, data_rule, DataLabel, DataOp, Delivery, direct_exit_to, direct_exits, direct_return, Doer, end_for, end_reopens, EndCall, ended, ended_halts, ended_last, ended_walks, ends_activation, ends_untold, EndsActivation, EndsByExit, EndsCall, EndsOwn, EndTells, EndPrimitives, exit_label, exit_restores, exit_rule_for, exit_stops, Exits, exits_trip, ExportKind, Fails, false, find_passes, FindsEvent, finish, foot_of, get, get-change, Given, given_code, given_handle, given_result, GivesUp, Goal, goal_of, Continues, GoesBack, Going, Gone, Halted, halted_from, halted_on, handed_as, HandsOut, has_ended, has_event_for, has_ready_member, HasSet, held_by_flag, holder_at_exit, HostPoll, OpProgress, if◌then◌else◌, implicit_exit_rule, inl, InOp, inr, instance_of, is_async_lifted, is_at, is_code_op, is_direct, is_ending_exit, is_exit, is_exit_op, is_explicit, is_guest_call, is_holding, is_mute, is_none, is_other, is_over, is_running, is_under, IsPermutation, IsRunner, join, Keep, keep_at, keep_position, keep_stay, kind_exit_rule, kind_of, Label, lands, last_of, last_shifted, LastEnds, LastPrimitives, Leaves, leaves_no_result, Left, left_gone, left_walk, length, List, Main, Mark, may, may_tell, MayBar, MayEnd, MayOwe, min, Move, moved_to, mute_primitives, nat_le, nat_lt, nat_tests, Never, NoAnswer, None, none_said, NoneHeldIn, not, NoPrimitive, numbers, on_call, on_instance, on_thread, OneEvent, OneNumber, Op, op_at_place, op_in, op_of, OpAnswer, Option, option_map_or, or_never, or_trap, Ordered, outcome_of_label, task_event_of, own_or_none, TaskEvent, OwnScript, passes_after_return, passes_after_stop, passes_check, Place, place_of, placing_shifted, position_of, Progress, Put, ready_same, Records, refl, register_of, release_leaves, released_on, released_shifts, Remains, ret_label, returned, returned_holder, returned_last, returned_rest, returned_tells, ReturnsNow, said_is, saved_own_of, says_by, SaysEnd, Scene, script_of, set_at, set_backpressure, set_do_not_enter, set_do_not_suspend, set_end, set_op_progress, set_place, SetBackpressure, SetDoNotEnter, SetDoNotSuspend, SetOpProgress, SetTaskEvent, SetRegister, SetSavedCallee, Setting, SetMemoryCell, Shifted, shifted, shifted_after, shifted_calls, shifted_ready, shifted_task, shifts_shifted, skip_rule, skipped, Some, SomeHost, spared_released, Status, stay_walk, StillAt, Stop, stopped_on, Stops, stored, subst, Subtask, SubtaskEnd, suc, sym, sync_exit_rule, sync_exits, T, task_cancel_label, task_end, task_of, TaskLabel, TaskOp, TellsNever, Then, Thread, thread_exit_rule, told_spares, told_to, ToldSpares, ToldTo, Trap, trap_if, Traps, Trip, trip_walk, true, Turn, Uncovers, under_of, unwrap_or, value_of, Walk, Why, primitive, Writes, writes_by, WritesCall, WritesToo, written_as, zero, ℕ, ◌%◌, ◌&&◌, ◌*◌, ◌+◌, ◌-◌, ◌/◌, ◌==◌, ◌||◌, ◌∙◌, ◌∷◌, ◌≡◌, ◌≤◌, ◌⊎◌}
+use Rattle.machine_rules.specs.Primitives.{Arrive}
+use Rattle.machine_rules.specs.Progress.{OneOf}
+use Rattle.machine_rules.specs.Step.{is_among}
+unfoldable use Rattle.machine_data.specs.Write.{arrive}
+use Rattle.machine_rules.proofs.Walks.{[], Advance, advanced, after_placing, and_parts, answered, answered_by, ap, ap₂, arith, Asks, assigned, AwaitsEvent, backpressure_of, begun_holder, blocking_exit_rule, blocking_exits, blocking_returned, Bool, both_none, BySetHandle, Call, call_ends, CallEnd, Caller, cancel_was_delivered, cancelled, cancelled_rest, cancelled_tells, checked, checked_shifts, Choice, chosen_released, code_exits, code_finds, code_kind_rule, code_rule, code_stops, code_wait_rule, code_waits, code_yields, ComesAgain, Component, component_of, Core, data_rule, DataLabel, DataOp, Delivery, direct_exit_to, direct_exits, direct_return, Doer, end_for, end_reopens, EndCall, ended, ended_halts, ended_last, ended_walks, ends_activation, ends_untold, EndsActivation, EndsByExit, EndsCall, EndsOwn, EndTells, EndPrimitives, exit_label, exit_restores, exit_rule_for, exit_stops, Exits, exits_trip, ExportKind, Fails, false, find_passes, FindsEvent, finish, foot_of, get, get-change, Given, given_code, given_handle, given_result, GivesUp, Goal, goal_of, Continues, GoesBack, Going, Gone, Halted, halted_from, halted_on, handed_as, HandsOut, has_ended, has_event_for, has_ready_member, HasSet, held_by_flag, holder_at_exit, HostPoll, OpProgress, if◌then◌else◌, implicit_exit_rule, inl, InOp, inr, instance_of, is_async_lifted, is_at, is_code_op, is_direct, is_ending_exit, is_exit, is_exit_op, is_explicit, is_guest_call, is_holding, is_mute, is_none, is_other, is_over, is_running, is_under, IsPermutation, IsRunner, join, Keep, keep_at, keep_position, keep_stay, kind_exit_rule, kind_of, Label, lands, last_of, last_shifted, LastEnds, LastPrimitives, Leaves, leaves_no_result, Left, left_gone, left_walk, length, List, Main, Mark, may, may_tell, MayBar, MayEnd, MayOwe, min, Move, moved_to, mute_primitives, nat_le, nat_lt, nat_tests, Never, NoAnswer, None, none_said, NoneHeldIn, not, NoPrimitive, numbers, on_call, on_instance, on_thread, OneEvent, OneNumber, Op, op_at_place, op_in, op_of, OpAnswer, Option, option_map_or, or_never, or_trap, Ordered, outcome_of_label, task_event_of, own_or_none, TaskEvent, OwnScript, passes_after_return, passes_after_stop, passes_check, Place, place_of, placing_shifted, position_of, Progress, Put, ready_same, Records, refl, register_of, release_leaves, released_on, released_shifts, Remains, ret_label, returned, returned_holder, returned_last, returned_rest, returned_tells, ReturnsNow, said_is, saved_own_of, says_by, SaysEnd, Scene, script_of, set_at, set_backpressure, set_do_not_enter, set_do_not_suspend, set_end, set_op_progress, set_place, SetBackpressure, SetDoNotEnter, SetDoNotSuspend, SetOpProgress, SetTaskEvent, SetRegister, SetSavedCallee, Setting, SetMemoryCell, Shifted, shifted, shifted_after, shifted_calls, shifted_ready, shifted_task, shifts_shifted, skip_rule, skipped, Some, SomeHost, spared_released, Status, stay_walk, StillAt, Stop, stopped_on, Stops, stored, subst, Subtask, SubtaskEnd, suc, sym, sync_exit_rule, sync_exits, T, task_cancel_label, task_end, task_of, TaskLabel, TaskOp, TellsNever, Then, Thread, thread_exit_rule, told_spares, told_to, ToldSpares, ToldTo, Trap, trap_if, Traps, Trip, trip_walk, true, Turn, Uncovers, under_of, unwrap_or, value_of, Walk, Why, primitive, Writes, writes_by, WritesCall, WritesToo, written_as, zero, ℕ, ◌%◌, ◌&&◌, ◌*◌, ◌+◌, ◌-◌, ◌/◌, ◌==◌, ◌||◌, ◌∙◌, ◌∷◌, ◌≡◌, ◌≤◌, ◌⊎◌}
 use Rattle.machine_rules.specs.{Finish.set_given, Task.dec_by, Task.held_by_counter, Task.pressure_gone, Task.pressure_lowered, Task.pressure_raised, Task.ret_rule, Task.task_cancel_rule, Task.task_rule}
 
 -- ---- The op in its script
@@ -36,6 +40,7 @@ Leads a b (Traps t) = Unit {0}
 Leads a b (Fails i) = Unit {0}
 Leads a b Never = Unit {0}
 Leads a b (Ordered ns next) = (order : List ℕ) → IsPermutation ns order → Leads a b (next order)
+Leads a b (OneOf ns next) = (m : ℕ) → is_among m ns ≡ true → Leads a b (next m)
 Leads a b (Asks next) = (answer : HostPoll) → Leads a b (next answer)
 
 module _ (a : Scene) (b : Core) where
@@ -193,6 +198,11 @@ module _ {a : Scene} {b : Core} (n : ℕ) (is : IsRunner a n) where
   unfolding code_stops
   code_stops_walks order {t = t} bar perm leave c =
       let d = reopens_walks {b = t} n is (instance_of n t) order bar perm NoPrimitive in (stopped_on (foot_of n t) leave.1.0 (join c d), halted_from n c d)
+
+-- which members are ready doesn't hang on who has come
+pub arrived_ready : (y n : ℕ) (t : Core) → has_ready_member y (arrive n t) ≡ has_ready_member y t
+unfolding arrive on_thread
+arrived_ready y n t = ready_same y t (arrive n t) refl refl
 
 -- the thread that is under n
 pub under_place : (n m : ℕ) (s : Core) → under_of n s ≡ Some m → place_of m s ≡ Some (Place.Under n)
@@ -368,9 +378,9 @@ module _ (ops : ℕ → Op) (x : Setting) (main : Main) (s : Core) (n : ℕ) (l 
   owes (Some e) has ends t = inr (n, (ends, (refl, ap own_or_none has)))
 
   code_wait_rule_leads : (k : Label) (y : ℕ) (b : Bool) → has_event_for (task_of n s) y s ≡ b → ((t : Core) → is_still a t k ≡ true) → (l ≡ k → MayBar a (instance_of n s) false) → EndsActivation a n → HasSet a n y → Leads a s (code_wait_rule k n y (held_by_flag (instance_of n s) s) s b)
-  unfolding code_finds code_waits code_stops has_event_for set_do_not_enter on_instance
+  unfolding code_finds code_waits code_stops has_event_for set_do_not_enter on_instance arrive on_thread
   code_wait_rule_leads k y true is_so plain bar ends has = λ order perm is to. stops_here k (code_finds n y order s) (plain _) (λ leave. lands (Put Mark.High n (Why.Delivery (Delivery.Set y))) refl (FindsEvent y leave ends has refl) tt (code_stops_walks n refl order (bar is) perm leave NoPrimitive).0) is to
-  code_wait_rule_leads k y false is_so plain bar ends has = let open_ready : has_ready_member y (set_do_not_enter (instance_of n s) false s) ≡ false = ready_same y s (set_do_not_enter (instance_of n s) false s) refl refl ∙ grind arith in λ order perm is to. stops_here k (code_waits n y order s) (plain _) (λ leave. let c = code_stops_walks n refl order (bar is) perm leave NoPrimitive in lands (Move n (Place.Waiting y true)) refl (AwaitsEvent y leave ends has (shifted_ready (shifted_after (reopened_shifted (instance_of n s) order s) (placing_shifted (Stop (foot_of n s)) (end_reopens (instance_of n s) order s))) y ∙ open_ready) refl) c.1 c.0) is to
+  code_wait_rule_leads k y false is_so plain bar ends has = let open_ready : has_ready_member y (set_do_not_enter (instance_of n s) false s) ≡ false = ready_same y s (set_do_not_enter (instance_of n s) false s) refl refl ∙ grind arith in λ order perm is to. stops_here k (code_waits n y order s) (plain _) (λ leave. let c = code_stops_walks n refl order (bar is) perm leave NoPrimitive in lands (Move n (Place.Waiting y true)) refl (AwaitsEvent y leave ends has (arrived_ready y n (after_placing (Stop (foot_of n s)) (end_reopens (instance_of n s) order s)) ∙ (shifted_ready (shifted_after (reopened_shifted (instance_of n s) order s) (placing_shifted (Stop (foot_of n s)) (end_reopens (instance_of n s) order s))) y ∙ open_ready)) refl) (halted_on c.1 (primitive (Arrive n) refl NoPrimitive)) (primitive (Arrive n) refl c.0)) is to
 
   code_exits_leads : (k : Label) → is_quiet s k ≡ true → ((t : Core) → l ≡ k → EndPrimitives a t) → (l ≡ k → MayBar a (instance_of n s) false) → (rest : ℕ) → Leads a s (code_kind_rule k n (held_by_flag (instance_of n s) s) s zero rest)
   unfolding code_exits code_stops set_do_not_enter on_instance

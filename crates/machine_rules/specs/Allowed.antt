@@ -6,7 +6,7 @@ use Rattle.std.specs.Prelude.{◌≤◌, length, Bool, None, Option, Some, [], f
 use Rattle.machine_data.specs.Core.{Core, MainPlace, Scripted, Unscripted}
 use Rattle.machine_data.specs.Labels.{host_label}
 use Rattle.machine_data.specs.Maps.{get}
-use Rattle.machine_data.specs.Moves.{has_entry, is_callback_waiter, is_deletable, is_group_done}
+use Rattle.machine_data.specs.Moves.{has_entry, is_callback_waiter, is_deletable, is_group_done, waits_cancellable}
 use Rattle.machine_data.specs.Read.{goes_open, is_open, admits, caller_of, cancel_was_delivered, course_of, course_value, end_of, event_of, goal_of, has_ended, has_member, has_waiters, op_progress_of, position_of, instance_of, is_async_lifted, is_at, is_direct, is_explicit, is_joined, is_stage_ended, is_waiter, is_watched, join_of, kind_of, may_not_enter, next_entry, task_event_of, phase_of, place_of, set_at, stage_of, subtask_at, subtask_ended, subtask_handle, undelivered_end, task_of, thread_group, was_started, work_caller_of, is_guest_call, is_aborted, is_blocked_on, foot_of, has_ready_member}
 use Rattle.machine_data.specs.Write.{set_backpressure, set_do_not_enter}
 use Rattle.machine_data.specs.declared.component.Callee.{Callee}
@@ -28,7 +28,7 @@ use Rattle.machine_data.specs.declared.statuses.Mark.{Mark}
 use Rattle.machine_data.specs.declared.statuses.TaskEvent.{TaskEvent}
 use Rattle.machine_data.specs.declared.statuses.Status.{Status}
 use Rattle.machine_rules.specs.Calls.{new_thread, next_thread, next_work}
-use Rattle.machine_rules.specs.Cancels.{aborted_phase, is_callback_wait}
+use Rattle.machine_rules.specs.Cancels.{aborted_phase, cancel_why, is_waiting}
 use Rattle.machine_rules.specs.Ends.{is_told, own_or_none}
 use Rattle.machine_rules.specs.MainOps.{op_at, takes_words, spawned_at, is_spawn}
 use Rattle.machine_rules.specs.Once.{returned_holder}
@@ -38,7 +38,7 @@ use Rattle.machine_rules.specs.Scenes.{Scene, component_of, op_in}
 use Rattle.machine_rules.specs.Scripts.{HasOpen, export_kind, is_script, registers_for, script_of, slot_at}
 use Rattle.machine_rules.specs.Threads.{resume_why}
 use Rattle.machine_rules.specs.Takes.{starting_is_published}
-use Rattle.machine_rules.specs.Primitives.{AddGroup, Advance, Restart, CloseSet, CountWork, EndWork, Enter, FinishWork, GoBehind, MakeCall, MakeThread, Move, NameCall, NameWork, OpenSet, Pend, Places, Placing, Pop, Promote, Put, QueueWork, RemoveCall, RemoveGroup, RemoveThread, RemoveWork, SetCallEvent, SetCallJoin, SetCancelDelivered, SetCancelled, SetBackpressure, SetDoNotEnter, EndCall, SetOpProgress, SetTaskEvent, SetPhase, SetStarted, TakeWorkEvent, SetWorkJoin, Stop, TakeHost, TakePush, UnnameCall, UnnameWork, Withdraw, Primitive, status_of_end, GiveResult, SetUninteresting, SetTrapped}
+use Rattle.machine_rules.specs.Primitives.{AddGroup, Advance, Arrive, Restart, CloseSet, CountWork, EndWork, Enter, FinishWork, GoBehind, MakeCall, MakeThread, Move, NameCall, NameWork, OpenSet, Pend, Places, Placing, Pop, Promote, Put, QueueWork, RemoveCall, RemoveGroup, RemoveThread, RemoveWork, SetCallEvent, SetCallJoin, SetCancelDelivered, SetCancelled, SetBackpressure, SetDoNotEnter, EndCall, SetOpProgress, SetTaskEvent, SetPhase, SetStarted, TakeWorkEvent, SetWorkJoin, Stop, TakeHost, TakePush, UnnameCall, UnnameWork, Withdraw, Primitive, status_of_end, GiveResult, SetUninteresting, SetTrapped}
 use Rattle.machine_rules.specs.Works.{next_polled, has_end, is_ended_work}
 use Rattle.machine_rules.specs.SubtaskEnds.{end_for, written_as, direct_return}
 use Rattle.machine_data.specs.declared.statuses.Mark.TheVariants as mark
@@ -166,8 +166,8 @@ pub data MayPut (n : ℕ) (w : Why) (s : Core) : Type 0 where
   Unblocks : (sub : Subtask) → place_of n s ≡ Some (place.Blocked sub) → is_done_host sub s ≡ true → w ≡ why.Resumption → MayPut n w s
   -- it was held with this
   Releases : place_of n s ≡ Some (place.Held w) → MayPut n w s
-  -- it waits by callback, and is cancelled
-  Cancels : is_at n s is_callback_wait ≡ true → w ≡ why.Delivery delivery.Cancel → MayPut n w s
+  -- it waits, and is cancelled
+  Cancels : is_at n s is_waiting ≡ true → w ≡ cancel_why (is_callback_waiter n s) → MayPut n w s
 
 -- the thread has an entry
 abbrev pub HasEntry : ℕ → Core → Type 0
@@ -411,10 +411,10 @@ MayOwe a k (Some e) s =
     ⊎ ((n : ℕ) × (EndsActivation a n × ((k ≡ task_of n a.base) × (own_or_none (task_event_of k a.base) ≡ Some e))))
 MayOwe a k None s = (n : ℕ) × (IsRunner a n × (k ≡ task_of n a.base))
 
--- a thread that was taken with a delivery finds Cancelled as its task event
+-- a thread that was taken with a delivery, or waits where a `wait` may take Cancelled, finds Cancelled as its task event
 abbrev pub MayDeliver : Scene → ℕ → Type 0
-MayDeliver a k = (n : ℕ) × (IsRunner a n × ((k ≡ task_of n a.base) × (((d : Delivery) × WasReady a n (why.Delivery d)) ×
-    (task_event_of k a.base ≡ Some own.Cancelled))))
+MayDeliver a k = (n : ℕ) × (IsRunner a n × ((k ≡ task_of n a.base) × ((((d : Delivery) × WasReady a n (why.Delivery d)) ⊎
+    ((is_wait (op_in a n) ≡ true) × (waits_cancellable k a.base ≡ true))) × (task_event_of k a.base ≡ Some own.Cancelled))))
 
 -- a call that nothing keeps goes where it has ended, or where the running thread's op, which was inside of it, is done
 abbrev pub MayRemoveCall : Scene → ℕ → Core → Type 0
@@ -535,6 +535,7 @@ Allowed a (Places p) s = MayShift p s ⊎ MayLeave a p s
 Allowed a (Advance n p) s = MayAdvance a n p
 Allowed a (Restart n) s = MayRestart a n
 Allowed a (SetOpProgress n h) s = MayCome a n h s × CanCome a n h s
+Allowed a (Arrive n) s = IsRunner a n
 Allowed a (MakeThread t) s = MayMake a t s
 Allowed a (RemoveThread n) s = MayGo a n s
 Allowed a (Withdraw k) s = MayWithdraw a k s × (SaysEnd a k status.StartCancelled × NoneCame a s)

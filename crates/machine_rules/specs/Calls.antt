@@ -60,6 +60,7 @@ new_call f e x g group = record {
   «end» = None;
   event = None;
   task_event = None;
+  cancel_asked = false;
   cancel_delivered = false;
   exited = false;
   interesting = true;
@@ -81,6 +82,7 @@ new_thread k explicit x registers h = record {
   handle = h;
   saved_own = None;
   saved_callee = None;
+  came = 0;
   place = place.New;
 }
 

@@ -1,5 +1,5 @@
 -- Cancelling and dropping a subtask.
-use Rattle.std.specs.Prelude.{Bool, None, Option, Some, [], false, if◌then◌else◌, is_some, not, true, ℕ, ◌∷◌}
+use Rattle.std.specs.Prelude.{Bool, None, Option, Some, [], false, if◌then◌else◌, is_some, not, true, ℕ, ◌∷◌, filter, ◌&&◌, ◌||◌, ◌==◌, List}
 use Rattle.machine_data.specs.declared.op.CallOp.{CallOp}
 use Rattle.machine_data.specs.declared.component.Component.{Component}
 use Rattle.machine_data.specs.declared.records.OpProgress.{OpProgress}
@@ -22,14 +22,16 @@ use Rattle.machine_data.specs.declared.label.ThreadLabel.TheVariants as thread_l
 use Rattle.machine_data.specs.declared.trap.Trap.TheVariants as trap
 use Rattle.machine_data.specs.declared.records.Why.TheVariants as why
 use Rattle.machine_data.specs.Core.{Core}
-use Rattle.machine_data.specs.Moves.{behind, call_settled, checked, passes_check, promoted_unless, put_switch, stopped_at, withdrawn}
-use Rattle.machine_data.specs.Read.{call_instance, event_of, foot_of, has_ended, op_progress_of, instance_of, is_at, is_callback_yield, is_joined, is_watched, join_of, may_not_suspend, phase_of, registers_of, saved_callee_of, subtask_at, subtask_ended, undelivered_end, was_cancelled, was_started}
-use Rattle.machine_data.specs.Write.{free_handle, set_cancelled, set_do_not_suspend, set_event, set_op_progress, set_join, set_task_event, set_phase, set_saved_callee, set_subtask_handle}
+use Rattle.machine_data.specs.Moves.{behind, call_settled, checked, is_callback_waiter, waits_cancellable, passes_check, promoted_unless, put_switch, stopped_at, withdrawn}
+use Rattle.machine_data.specs.Read.{call_instance, cancel_was_asked, event_of, foot_of, has_ended, instance_of, is_at, is_callback_yield, is_joined, is_nil, is_second, is_watched, join_of, may_not_suspend, op_progress_of, phase_of, registers_of, saved_callee_of, subtask_at, subtask_ended, task_of, undelivered_end, was_cancelled, was_started}
+use Rattle.machine_data.specs.Write.{free_handle, set_cancel_asked, set_cancelled, set_do_not_suspend, set_event, set_op_progress, set_join, set_task_event, set_phase, set_saved_callee, set_subtask_handle}
+use Rattle.machine_data.specs.Maps.{numbers}
 use Rattle.machine_rules.specs.Calls.{answered, answered_by, call_host_rule, call_rule, call_sync_host_rule, call_sync_rule, put_back, work_deleted}
 use Rattle.machine_rules.specs.Finish.{Doer, NoAnswer, OwnScript, finish}
-use Rattle.machine_rules.specs.Progress.{Continues, Progress, Stops, Traps, or_trap, trap_if}
+use Rattle.machine_rules.specs.Progress.{Continues, OneOf, Progress, Stops, Traps, or_trap, trap_if}
 use Rattle.machine_rules.specs.Scripts.{value_of, values_in}
 use Rattle.machine_data.specs.Statuses.{status_code}
+use Rattle.machine_data.specs.declared.records.Why.{Why}
 
 -- Which of the two ops it is.
 pub data Mode : Type 0 where
@@ -120,9 +122,9 @@ cancel_host mode n r i s = cancel_host_by (OwnScript r) mode n i s
 abbrev pub cancel_withdraws : ℕ → ℕ → ℕ → Core → Core
 cancel_withdraws n r k s = answered n r 3 (withdrawn k s)
 
--- the task finds Cancelled as its task event
+-- a cancel was asked, and the task finds Cancelled as its task event
 unfoldable pub cancel_asks : ℕ → Core → Core
-cancel_asks k s = set_task_event k (Some own.Cancelled) s
+cancel_asks k s = set_cancel_asked k (set_task_event k (Some own.Cancelled) s)
 
 -- the canceller goes behind the entry at switch; default: nothing at switch
 abbrev pub behind_switch : ℕ → Option ℕ → Core → Core
@@ -137,17 +139,37 @@ cancel_goes_behind n k s =
     let watched = set_join (subtask.Guest k) (join.Watched n) cleared in
     set_op_progress n (op_progress.Cancels (subtask.Guest k)) (behind_switch n s.queues.switch watched)
 
--- the waiting callback becomes the switch entry
-unfoldable pub cancel_wakes_callback : ℕ → ℕ → Core → Core
-cancel_wakes_callback n k s = cancel_goes_behind n k (put_switch k (why.Delivery delivery.Cancel) (cancel_asks k s))
+-- a waiting callback is given the cancel, and a `wait` is resumed
+abbrev pub cancel_why : Bool → Why
+cancel_why true = why.Delivery delivery.Cancel
+cancel_why false = why.Resumption
+
+-- the thread m of the call, which waits, becomes the switch entry
+unfoldable pub cancel_wakes : ℕ → ℕ → (woken : ℕ) → Core → Core
+cancel_wakes n k m s = cancel_goes_behind n k (put_switch m (cancel_why (is_callback_waiter m s)) (cancel_asks k s))
 
 -- the callback's yield moves to switch, unless an entry is there
 unfoldable pub cancel_promotes_yield : ℕ → ℕ → Core → Core
 cancel_promotes_yield n k s = cancel_goes_behind n k (promoted_unless k (cancel_asks k s))
 
-abbrev pub is_callback_wait : Place → Bool
-is_callback_wait (place.Waiting x by_callback) = by_callback
-is_callback_wait _ = false
+abbrev pub is_waiting : Place → Bool
+is_waiting (place.Waiting x by_callback) = true
+is_waiting _ = false
+
+-- the thread is of the call, and waits on a set, by callback or in `wait`
+abbrev pub is_waiting_of : ℕ → Core → ℕ → Bool
+is_waiting_of k s m = (task_of m s == k) && is_at m s is_waiting
+
+abbrev pub waiting_in : ℕ → Core → List ℕ
+waiting_in k s = filter (is_waiting_of k s) (numbers s.threads)
+
+-- the call's first thread, where it waits by callback
+abbrev pub waiting_callback : ℕ → Core → List ℕ
+waiting_callback k s = if is_callback_waiter k s then k ∷ [] else []
+
+-- the threads of the call that wait so that a cancel may take them: a callback, and where `wait` may take Cancelled all
+abbrev pub cancellable : ℕ → Core → List ℕ
+cancellable k s = if waits_cancellable k s then waiting_in k s else waiting_callback k s
 
 -- What a cancel finds of a guest call.
 pub data CancelCase : Type 0 where
@@ -155,8 +177,10 @@ pub data CancelCase : Type 0 where
   AlreadyEnded : CancelCase
   -- its start hasn't run
   StartNotRun : CancelCase
-  -- its callback waits on a set
-  CallbackWaits : CancelCase
+  -- it was asked before, in version 2
+  AskedBefore : CancelCase
+  -- a thread of it waits that may be cancelled
+  ThreadWaits : CancelCase
   -- its callback has yielded, and the entry is queued
   CallbackYields : CancelCase
   -- it runs, or is anywhere else
@@ -167,14 +191,16 @@ abbrev pub cancel_case : ℕ → Core → CancelCase
 cancel_case k s =
     if has_ended k s then AlreadyEnded else
     if not (was_started k s) then StartNotRun else
-    if is_at k s is_callback_wait then CallbackWaits else
+    if is_second s.version && cancel_was_asked k s then AskedBefore else
+    if not (is_nil (cancellable k s)) then ThreadWaits else
     if is_at k s is_callback_yield then CallbackYields else OtherwiseRuns
 
 -- the table of the cancel
 abbrev pub cancel_guest_by : Doer → Mode → ℕ → ℕ → Core → CancelCase → Progress
 cancel_guest_by d mode n k s AlreadyEnded = cancel_ended_by d mode n (subtask.Guest k) s (undelivered_end (event_of (subtask.Guest k) s))
 cancel_guest_by d mode n k s StartNotRun = Continues (cancel_label mode n 3) (answered_by d n 3 (withdrawn k s)) n
-cancel_guest_by d mode n k s CallbackWaits = Stops (pauses n) (cancel_wakes_callback n k s)
+cancel_guest_by d mode n k s AskedBefore = Traps trap.SubtaskCancelAfterTerminal
+cancel_guest_by d mode n k s ThreadWaits = OneOf (cancellable k s) (λ m. Stops (pauses n) (cancel_wakes n k m s))
 cancel_guest_by d mode n k s CallbackYields = Stops (pauses n) (cancel_promotes_yield n k s)
 cancel_guest_by d mode n k s OtherwiseRuns = after_cancel_by d mode n (subtask.Guest k) (cancel_asks k s)
 

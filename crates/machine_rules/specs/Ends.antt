@@ -24,7 +24,7 @@ use Rattle.machine_data.specs.Core.{Core}
 use Rattle.machine_data.specs.Labels.{exit_label}
 use Rattle.machine_data.specs.Moves.{checked, ended, may_publish, passes_check, published, put_high, put_low, released, stopped}
 use Rattle.machine_data.specs.Read.{admitted_held, caller_of, callers_of, first_at, foot_of, goal_of, has_ended, has_ready_member, instance_of, is_direct, is_explicit, is_guest_call, is_last_thread, is_nil, is_waiting_on, join_of, kind_of, task_event_of, register_of, saved_own_of, set_at, task_of, under_of}
-use Rattle.machine_data.specs.Write.{give_result, set_do_not_enter, set_do_not_suspend, set_end, set_op_progress, set_task_event, set_place, set_register, set_result}
+use Rattle.machine_data.specs.Write.{arrive, give_result, set_do_not_enter, set_do_not_suspend, set_end, set_op_progress, set_task_event, set_place, set_register, set_result}
 use Rattle.machine_rules.specs.Progress.{Continues, Never, Ordered, Progress, Stops, Traps, may, or_trap, trap_if}
 
 -- ---- The end of a task
@@ -180,7 +180,7 @@ code_finds n x order s = put_high n (why.Delivery (delivery.Set x)) (code_stops 
 
 -- code 2: no event is there
 unfoldable pub code_waits : ℕ → ℕ → List ℕ → Core → Core
-code_waits n x order s = set_place n (place.Waiting x true) (code_stops n order s)
+code_waits n x order s = set_place n (place.Waiting x true) (arrive n (code_stops n order s))
 
 -- the task event, or a ready member of the set, is there
 unfoldable pub has_event_for : ℕ → ℕ → Core → Bool

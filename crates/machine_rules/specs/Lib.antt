@@ -23,6 +23,7 @@ pub mod Once
 pub mod Notices
 pub mod Primitives
 pub mod Picks
+pub mod Arrivals
 pub mod TablePlaces
 pub mod Scenes
 pub mod OpParts

@@ -5,7 +5,7 @@ use Rattle.std.specs.Prelude.{Bool, IfSome, List, None, Option, Some, [], false,
 use Rattle.machine_data.specs.Core.{Core, State}
 use Rattle.machine_data.specs.Labels.{choice_of, woken_of}
 use Rattle.machine_data.specs.Maps.{Records, get}
-use Rattle.machine_data.specs.Read.{instance_of, is_ready_member, is_waiter, same_subtask, subtask_at}
+use Rattle.machine_data.specs.Read.{came_of, instance_of, is_ready_member, is_waiter, same_subtask, subtask_at}
 use Rattle.machine_data.specs.declared.label.Label.TheVariants as label
 use Rattle.machine_data.specs.declared.label.Label.{Label}
 use Rattle.machine_data.specs.declared.label.SetLabel.TheVariants as set
@@ -19,7 +19,9 @@ use Rattle.machine_data.specs.declared.statuses.Given.{Given}
 use Rattle.machine_data.specs.declared.statuses.HostPoll.{HostPoll}
 use Rattle.machine_data.specs.declared.records.Turn.TheVariants as turn
 use Rattle.machine_data.specs.declared.records.Turn.{Turn}
-use Rattle.machine_rules.specs.Progress.{Asks, Continues, Ordered, Progress, Stops, may}
+use Rattle.machine_data.specs.declared.scenario.Version.TheVariants as version
+use Rattle.machine_data.specs.declared.scenario.Version.{Version}
+use Rattle.machine_rules.specs.Progress.{Asks, Continues, OneOf, Ordered, Progress, Stops, may}
 use Rattle.machine_rules.specs.Stalled.{Setting}
 use Rattle.machine_rules.specs.Step.{Progresses, TurnStep, did}
 
@@ -48,16 +50,14 @@ work_seat p i = unwrap_or (get p.works i) 0
 
 -- ---- What comes first
 
--- By what is picked: what is wanted comes first, of held threads in this order, and then what has the lesser place.
+-- By what is picked: what is wanted comes first, of held threads in this order. Then of two threads that wait or are held the one that
+-- comes before the other so, and of all else what has the lesser place.
 pub record Preference : Type 0 where
   pub waiter : Option ℕ
   pub member : Option Subtask
   pub held : List ℕ
+  pub earlier : ℕ → ℕ → Bool
   pub seats : Seats
-
--- nothing is wanted
-abbrev pub by_place : Seats → Preference
-by_place p = record { waiter = None; member = None; held = []; seats = p }
 
 -- threads by the place of their task, then by their own
 abbrev pub seat_before : ThreadSeat → ThreadSeat → Bool
@@ -65,6 +65,15 @@ seat_before a b = is_lt (ordering_then (nat_cmp a.task b.task) (nat_cmp a.own b.
 
 abbrev pub thread_before : Seats → ℕ → ℕ → Bool
 thread_before p m n = seat_before (thread_seat p m) (thread_seat p n)
+
+-- in version 1 by their places, in version 2 by when they began to wait or to be held
+abbrev pub earlier_by : Version → (came : ℕ → ℕ) → Seats → ℕ → ℕ → Bool
+earlier_by version.One came p m n = thread_before p m n
+earlier_by version.Two came p m n = is_lt (nat_cmp (came m) (came n))
+
+-- as the core has it
+abbrev pub earlier_in : Core → Seats → ℕ → ℕ → Bool
+earlier_in s p m n = earlier_by s.version (λ k. came_of k s) p m n
 
 -- host works come before calls, each by its place
 abbrev pub subtask_before : Seats → Subtask → Subtask → Bool
@@ -79,14 +88,18 @@ listed_before [] m n otherwise = otherwise
 listed_before (k ∷ ks) m n otherwise = if k == n then false else (if k == m then true else listed_before ks m n otherwise)
 
 abbrev pub held_before : Preference → ℕ → ℕ → Bool
-held_before p m n = listed_before p.held m n (thread_before p.seats m n)
+held_before p m n = listed_before p.held m n (p.earlier m n)
 
 abbrev pub waiter_or : Option ℕ → ℕ → ℕ → Bool → Bool
 waiter_or None m n otherwise = otherwise
 waiter_or (Some w) m n otherwise = if w == n then false else (if w == m then true else otherwise)
 
 abbrev pub waiter_before : Preference → ℕ → ℕ → Bool
-waiter_before p m n = waiter_or p.waiter m n (thread_before p.seats m n)
+waiter_before p m n = waiter_or p.waiter m n (p.earlier m n)
+
+-- of the threads that a cancel may take the least by its own place is taken
+abbrev pub cancel_before : Preference → ℕ → ℕ → Bool
+cancel_before p m n = waiter_or p.waiter m n (is_lt (nat_cmp (thread_seat p.seats m).own (thread_seat p.seats n).own))
 
 abbrev pub member_or : Option Subtask → Subtask → Subtask → Bool → Bool
 member_or None sub other otherwise = otherwise
@@ -152,9 +165,10 @@ pub record ShowsFirst (p : Preference) (s : Core) (l : Label) : Type 0 where
 
 -- ---- What a step does
 
--- as the rule, with each release in the order of the preference
+-- as the rule, with each release in the order of the preference, and the first of threads that the label doesn't show
 abbrev pub in_order : Preference → Progress → Progress
 in_order p (Ordered ns next) = Ordered ns (λ order. may (goes_in_order p order) (in_order p (next order)))
+in_order p (OneOf ns next) = OneOf ns (λ m. may (not (list_any (λ n. cancel_before p n m) ns)) (in_order p (next m)))
 in_order p (Asks next) = Asks (λ answer. in_order p (next answer))
 in_order p row = row
 
@@ -167,9 +181,10 @@ TurnStepIn p x s q l t = TurnStep x s q l t
 unfoldable pub StepIn : Preference → Setting → State → Label → State → Type 0
 StepIn p x s l t = TurnStepIn p x s s.turn l t
 
--- the rule releases no thread
+-- the rule releases no thread, and takes none that its label doesn't show
 abbrev pub ReleasesNone : Progress → Type 0
 ReleasesNone (Ordered ns next) = ⊥
+ReleasesNone (OneOf ns next) = ⊥
 ReleasesNone (Asks next) = (answer : HostPoll) → ReleasesNone (next answer)
 ReleasesNone _ = Unit {0}
 
@@ -182,6 +197,7 @@ abbrev pub LeavesNoChoice : Progress → Type 0
 LeavesNoChoice (Continues l new m) = Silent l
 LeavesNoChoice (Stops l new) = Silent l
 LeavesNoChoice (Ordered ns next) = ⊥
+LeavesNoChoice (OneOf ns next) = ⊥
 LeavesNoChoice (Asks next) = (answer : HostPoll) → LeavesNoChoice (next answer)
 LeavesNoChoice _ = Unit {0}
 

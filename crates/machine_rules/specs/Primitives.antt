@@ -3,7 +3,7 @@ use Rattle.machine_data.specs.Read.{course_of, course_value, is_direct, is_guest
 use Rattle.std.specs.Prelude.{Bool, List, None, Option, false, if◌then◌else◌, not, ℕ, ◌+◌, ◌&&◌, Some}
 use Rattle.machine_data.specs.Core.{Core}
 use Rattle.machine_data.specs.Moves.{behind_one, less_switch, promoted, put_high, put_low, put_switch, stopped, unqueued}
-use Rattle.machine_data.specs.Write.{add_group, add_set, add_thread, count_work, free_handle, free_thread_handle, give_handle, give_result, push_high, remove_call, remove_group, remove_set, remove_thread, remove_work, set_backpressure, set_cancel_delivered, set_cancelled, set_course, set_do_not_enter, set_do_not_suspend, on_call, set_event, set_exited, set_op_progress, set_join, set_task_event, set_phase, set_place, set_position, set_register, set_result, set_saved_callee, set_saved_own, set_script, set_stage, set_started, set_starting_published, set_subtask_handle, set_trapped, set_uninteresting, set_memory_cell, take_result, with_switch}
+use Rattle.machine_data.specs.Write.{arrive, add_group, add_set, add_thread, count_work, free_handle, free_thread_handle, give_handle, give_result, push_high, remove_call, remove_group, remove_set, remove_thread, remove_work, set_backpressure, set_cancel_asked, set_cancel_delivered, set_cancelled, set_course, set_do_not_enter, set_do_not_suspend, on_call, set_event, set_exited, set_op_progress, set_join, set_task_event, set_phase, set_place, set_position, set_register, set_result, set_saved_callee, set_saved_own, set_script, set_stage, set_started, set_starting_published, set_subtask_handle, set_trapped, set_uninteresting, set_memory_cell, take_result, with_switch}
 use Rattle.machine_data.specs.declared.component.Callee.{Callee}
 use Rattle.machine_data.specs.declared.component.ExportKind.{ExportKind}
 use Rattle.machine_data.specs.declared.component.HostDef.{HostDef}
@@ -85,6 +85,8 @@ pub data Primitive : Type 0 where
   SetOpProgress : (thread : ℕ) → (op_progress : OpProgress) → Primitive
   -- it begins its react script
   Restart : (thread : ℕ) → Primitive
+  -- it comes after all that wait or are held
+  Arrive : (thread : ℕ) → Primitive
   SetSavedOwn : (thread : ℕ) → (saved : Option Bool) → Primitive
   SetSavedCallee : (thread : ℕ) → (saved : Option Bool) → Primitive
   NameThread : (instance thread : ℕ) → Primitive
@@ -99,6 +101,7 @@ pub data Primitive : Type 0 where
   SetStartingPublished : (call : ℕ) → Primitive
   EndCall : (call : ℕ) → (end : CallEnd) → Primitive
   SetTaskEvent : (call : ℕ) → (event : Option TaskEvent) → Primitive
+  SetCancelAsked : (call : ℕ) → Primitive
   SetCancelDelivered : (call : ℕ) → Primitive
   SetExited : (call : ℕ) → Primitive
   SetUninteresting : (call : ℕ) → Primitive
@@ -160,6 +163,7 @@ after_primitive (SetRegister n r v) s = set_register n r v s
 after_primitive (Advance n p) s = set_op_progress n op_progress.Fresh (set_position n p s)
 after_primitive (SetOpProgress n h) s = set_op_progress n h s
 after_primitive (Restart n) s = set_op_progress n op_progress.Fresh (set_position n 0 (set_script n script.React s))
+after_primitive (Arrive n) s = arrive n s
 after_primitive (SetSavedOwn n b) s = set_saved_own n b s
 after_primitive (SetSavedCallee n b) s = set_saved_callee n b s
 after_primitive (NameThread i n) s = with_thread_handle i n s
@@ -172,6 +176,7 @@ after_primitive (SetStarted k) s = set_started k s
 after_primitive (SetStartingPublished k) s = set_starting_published k s
 after_primitive (EndCall k e) s = on_call k (ended_as e) s
 after_primitive (SetTaskEvent k e) s = set_task_event k e s
+after_primitive (SetCancelAsked k) s = set_cancel_asked k s
 after_primitive (SetCancelDelivered k) s = set_cancel_delivered k s
 after_primitive (SetExited k) s = set_exited k s
 after_primitive (SetUninteresting k) s = set_uninteresting k s

@@ -17,6 +17,8 @@ pub data Progress : Type 0 where
   Never : Progress
   -- any order of these threads, which the label doesn't show
   Ordered : (held : List ℕ) → (next : List ℕ → Progress) → Progress
+  -- any one of these threads, which the label doesn't show
+  OneOf : (among : List ℕ) → (next : ℕ → Progress) → Progress
   -- a host is polled that is open: whatever it answers, which the label may not show
   Asks : (next : HostPoll → Progress) → Progress
 

@@ -3,7 +3,8 @@ use Rattle.std.specs.Prelude.{List, [], length, replicate, ℕ, ◌∷◌, ◌�
 use Rattle.machine_data.specs.declared.label.Label.{Label}
 use Rattle.machine_data.specs.declared.scenario.ScenarioDef.{ScenarioDef}
 use Rattle.machine_data.specs.declared.records.Turn.TheVariants as turn
-use Rattle.machine_data.specs.Core.{Main, MainPlace, One, Scripted, State, fresh}
+use Rattle.machine_data.specs.Core.{Main, MainPlace, Scripted, State, fresh}
+use Rattle.machine_data.specs.declared.scenario.Version.{Version}
 use Rattle.machine_rules.specs.Stalled.{Setting}
 use Rattle.machine_rules.specs.Step.{Step}
 
@@ -16,15 +17,14 @@ Run x s (l ∷ ls) t = (mid : State) × (Step x s l mid × Run x mid ls t)
 abbrev pub main_opening : MainPlace
 main_opening = record { position = 0; registers = replicate 16 0; starts = []; spawns = [] }
 
--- the state in which nothing was made, with this many instances and these limits, and main's turn
-abbrev pub opening : (instances handle_limit capacity : ℕ) → Main → State
-opening instances handle_limit capacity main = record {
-  version = One;
-  core = fresh instances handle_limit capacity;
+-- the state in which nothing was made, by these rules, with this many instances and these limits, and main's turn
+abbrev pub opening : Version → (instances handle_limit capacity : ℕ) → Main → State
+opening v instances handle_limit capacity main = record {
+  core = fresh v instances handle_limit capacity;
   main = main;
   turn = turn.Main;
 }
 
 -- the opening state of a scenario
 unfoldable pub opens : ScenarioDef → State
-opens x = opening (length x.component.instances) x.handles x.table (Scripted main_opening)
+opens x = opening x.version (length x.component.instances) x.handles x.table (Scripted main_opening)

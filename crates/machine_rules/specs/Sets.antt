@@ -18,8 +18,8 @@ use Rattle.machine_data.specs.declared.label.ThreadLabel.TheVariants as thread_l
 use Rattle.machine_data.specs.declared.trap.Trap.TheVariants as trap
 use Rattle.machine_data.specs.Core.{Core}
 use Rattle.machine_data.specs.Labels.{Choice, join_label, wait_label}
-use Rattle.machine_data.specs.Moves.{PickedEvent, NothingPicked, checked, picked_event, given_for, handed_on, may_hand_on, may_wake, picked_task_event_of, passes_check, stopped_at, taken, wake}
-use Rattle.machine_data.specs.Read.{at_handle_limit, event_of, fits, has_member, has_ready_member, has_waiters, op_progress_of, instance_of, is_watched, join_of, new_handle, set_at, subtask_at, task_of}
+use Rattle.machine_data.specs.Moves.{NothingPicked, PickedEvent, checked, given_for, handed_on, may_hand_on, may_wake, passes_check, picked_event, picked_task_event_of, stopped_last, taken, waits_cancellable, wake}
+use Rattle.machine_data.specs.Read.{at_handle_limit, event_of, fits, has_member, has_ready_member, has_waiters, instance_of, is_watched, join_of, new_handle, op_progress_of, set_at, subtask_at, task_of}
 use Rattle.machine_data.specs.Write.{add_set, free_handle, give_handle, remove_set, set_op_progress, set_join, set_register}
 pub use Rattle.machine_rules.specs.Finish.{given_code, given_handle, given_result}
 unfoldable pub use Rattle.machine_rules.specs.Finish.{set_given}
@@ -93,14 +93,14 @@ received n r g v s = received_by (OwnScript r) n g v s
 
 -- the strand stops, and its top waits on x
 unfoldable pub wait_stops : ℕ → ℕ → Core → Core
-wait_stops n x s = set_op_progress n (op_progress.Waits x) (stopped_at n (place.Waiting x false) s)
+wait_stops n x s = set_op_progress n (op_progress.Waits x) (stopped_last n (place.Waiting x false) s)
 
 unfoldable pub wait_stops_checked : ℕ → ℕ → Core → Core
 wait_stops_checked n x s = wait_stops n x (checked (instance_of n s) s)
 
 -- neither the task event, as far as the thread may take it, nor a ready member is there
 unfoldable pub finds_nothing : ℕ → ℕ → Core → Bool
-finds_nothing n x s = is_none (picked_task_event_of false (task_of n s) s) && not (has_ready_member x s)
+finds_nothing n x s = is_none (picked_task_event_of (waits_cancellable (task_of n s) s) (task_of n s) s) && not (has_ready_member x s)
 
 abbrev pub wait_takes_by : Doer → ℕ → Choice → Core → PickedEvent → Progress
 wait_takes_by d n ch s g = let v = handed_out ch s g in Continues (label.Set (set_label.Wait v n)) (received_by d n g v s) n
@@ -115,7 +115,7 @@ wait_begins_by d n ch s x true =
     trap_if (not (passes_check (instance_of n s) s)) trap.CannotBlockSyncTask (
     Stops (label.Thread (thread_label.Pauses n)) (wait_stops_checked n x s))
 wait_begins_by d n ch s x false =
-    or_never (picked_event false (task_of n s) x (chosen n ch s) s) (
+    or_never (picked_event (waits_cancellable (task_of n s) s) (task_of n s) x (chosen n ch s) s) (
     wait_takes_by d n ch s)
 
 abbrev pub wait_begins : ℕ → ℕ → Choice → Core → ℕ → Bool → Progress
@@ -142,7 +142,7 @@ wait_goes_on n x r ch s g = wait_goes_on_by (OwnScript r) n x ch s g
 -- `wait R X`: resumed inside it, or as it begins: trap 16 (BadHandle) where X names no set
 abbrev pub wait_rule : Doer → ℕ → ℕ → Choice → Core → OpProgress → Progress
 wait_rule d n h ch s (op_progress.Waits x) =
-    or_never (picked_event false (task_of n s) x (chosen n ch s) s) (
+    or_never (picked_event (waits_cancellable (task_of n s) s) (task_of n s) x (chosen n ch s) s) (
     wait_goes_on_by d n x ch s)
 wait_rule d n h ch s _ =
     or_trap (set_at (instance_of n s) h s) trap.BadHandle (

@@ -1,5 +1,6 @@
 -- The steps of the machine, by turn and label.
-use Rattle.std.specs.Prelude.{Bool, IsPermutation, List, None, Option, Some, false, true, ℕ, ◌≡◌}
+use Rattle.std.specs.List.{list_any}
+use Rattle.std.specs.Prelude.{◌==◌, Bool, IsPermutation, List, None, Option, Some, false, true, ℕ, ◌≡◌}
 use Rattle.machine_data.specs.declared.component.Component.{Component}
 use Rattle.machine_data.specs.declared.records.Entry.{Entry}
 use Rattle.machine_data.specs.declared.label.Label.{Label}
@@ -24,7 +25,7 @@ use Rattle.machine_data.specs.Write.{remove_threads, set_trapped}
 use Rattle.machine_rules.specs.Cancels.{call_answer, subtask_rule}
 use Rattle.machine_rules.specs.Data.{data_rule}
 use Rattle.machine_rules.specs.MainOps.{Answers, Does, MainAct, MainProgress, Pends, act_of, advanced_main, line_of, main_rule, may_act, op_at}
-use Rattle.machine_rules.specs.Progress.{Fails, Continues, Never, Ordered, Progress, Stops, Traps, Asks}
+use Rattle.machine_rules.specs.Progress.{Fails, Continues, Never, OneOf, Ordered, Progress, Stops, Traps, Asks}
 use Rattle.machine_rules.specs.Scripts.{op_of}
 use Rattle.machine_rules.specs.Sets.{set_answer, set_rule}
 use Rattle.machine_rules.specs.Stalled.{Setting, deadlock_trap, is_unended_take, may_deadlock}
@@ -72,6 +73,9 @@ unwound n s = set_trapped (remove_threads (strand_of n s) s)
 abbrev pub trap_label : ℕ → Trap → Label
 trap_label n t = label.Loop (loop_label.Trap t n)
 
+abbrev pub is_among : ℕ → List ℕ → Bool
+is_among m ns = list_any (λ n. m == n) ns
+
 -- From s, where n runs or was taken in the core, the progress shows the label and leads to t.
 abbrev pub Progresses : State → Core → ℕ → Progress → Label → State → Type 0
 Progresses s base n (Continues label new m) l t = (l ≡ label) × (t ≡ goes_to s new (turn.Run m))
@@ -80,6 +84,7 @@ Progresses s base n (Traps trap) l t = (l ≡ trap_label n trap) × (t ≡ goes_
 Progresses s base n (Fails i) l t = (l ≡ label.Call (call_label.Fails n i)) × (t ≡ goes_to s (unwound n base) turn.Over)
 Progresses s base n Never l t = ⊥
 Progresses s base n (Ordered ns next) l t = (order : List ℕ) × (IsPermutation ns order × Progresses s base n (next order) l t)
+Progresses s base n (OneOf ns next) l t = (m : ℕ) × ((is_among m ns ≡ true) × Progresses s base n (next m) l t)
 Progresses s base n (Asks next) l t = (answer : HostPoll) × Progresses s base n (next answer) l t
 
 -- ---- The turns

@@ -12,7 +12,8 @@ use Rattle.machine_data.specs.declared.label.LoopLabel.{LoopLabel}
 use Rattle.machine_data.specs.declared.records.Work.{Work}
 use Rattle.machine_rules.specs.History.{Moment}
 use Rattle.machine_rules.specs.Notices.{is_in}
-use Rattle.machine_rules.specs.Picks.{Picks, Seats, by_place, call_seat, thread_seat, work_seat}
+use Rattle.machine_rules.specs.Picks.{Picks, Seats, call_seat, thread_seat, work_seat}
+use Rattle.machine_rules.specs.Arrivals.{came_by, preferred}
 use Rattle.machine_rules.specs.Stalled.{Setting}
 
 -- Who has which place: threads with their calls, calls, host works; the sync-call sets of threads; sets that guests made; groups. Which
@@ -153,7 +154,8 @@ reseated k p = moved_places (down_from k.label k.before.core) k.before.core k.af
 
 -- ---- A run
 
--- Each step picks by the places that there are before it.
-abbrev pub PicksAll : Setting → TablePlaces → List Moment → Type 0
-PicksAll x p [] = Unit {0}
-PicksAll x p (k ∷ ks) = Picks (by_place p.seats) x k.before k.label k.after × PicksAll x (reseated k p) ks
+-- Each step picks by the places that there are before it, and in version 2 by who has come before it.
+abbrev pub PicksAll : Setting → TablePlaces → (came : List ℕ) → List Moment → Type 0
+PicksAll x p came [] = Unit {0}
+PicksAll x p came (k ∷ ks) =
+    Picks (preferred k.before.core.version came p.seats) x k.before k.label k.after × PicksAll x (reseated k p) (came_by k came) ks

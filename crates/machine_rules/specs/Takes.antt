@@ -27,7 +27,7 @@ use Rattle.machine_data.specs.declared.records.WorkCaller.TheVariants as work_ca
 use Rattle.machine_data.specs.Core.{Core}
 use Rattle.machine_data.specs.Labels.{Choice, event_label, held_label, host_label, take_label}
 use Rattle.machine_data.specs.Maps.{get}
-use Rattle.machine_data.specs.Moves.{PickedEvent, NothingPicked, picked_event, given_for, handed_on, may_hand_on, may_publish, picked_task_event_only, published, stopped_at, taken}
+use Rattle.machine_data.specs.Moves.{PickedEvent, NothingPicked, picked_event, given_for, handed_on, may_hand_on, may_publish, picked_task_event_only, published, stopped_last, taken}
 use Rattle.machine_data.specs.Read.{admits, at_handle_limit, course_of, course_value, instance_of, is_explicit, kind_of, place_of, task_of, work_caller_of}
 use Rattle.machine_data.specs.Write.{set_do_not_enter, set_high, set_low, set_place, set_register, set_script, set_stage, set_started, set_starting_published, set_switch}
 use Rattle.machine_rules.specs.Calls.{sync_sets_flag, with_thread_handle}
@@ -86,7 +86,7 @@ may_tell_starting k w s = if starting_is_published k s then is_none w else may_t
 
 -- the thread is held with its entry, and its strand stops
 unfoldable pub take_holds : ℕ → Why → Core → Core
-take_holds n w s = stopped_at n (place.Held w) s
+take_holds n w s = stopped_last n (place.Held w) s
 
 unfoldable pub start_holds : ℕ → Option ℕ → Core → Core
 start_holds n w s = take_holds n why.Start (starting_told (task_of n s) w s)
@@ -136,7 +136,7 @@ activated_woken n x w g v s = activated n g v (handed_on x g w s)
 
 -- it found nothing, and waits again
 unfoldable pub wait_again : ℕ → ℕ → Core → Core
-wait_again n x s = stopped_at n (place.Waiting x true) s
+wait_again n x s = stopped_last n (place.Waiting x true) s
 
 -- the callback waits again where nothing is there; else it is given what is there
 abbrev pub set_delivered : Mark → ℕ → ℕ → Choice → Core → PickedEvent → Progress

@@ -28,7 +28,7 @@ settled_turn s x = x
 
 -- the state with this core and main's part, at this turn
 unfoldable pub at_turn : State → Core → Main → Turn → State
-at_turn s new main x = record { version = s.version; core = new; main = main; turn = settled_turn new x }
+at_turn s new main x = record { core = new; main = main; turn = settled_turn new x }
 
 -- main's part stays
 abbrev pub goes_to : State → Core → Turn → State

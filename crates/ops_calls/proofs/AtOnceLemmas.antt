@@ -35,7 +35,7 @@ use Rattle.ops_guests.specs.declared.op_result.OpResult.{OpResult}
 use Rattle.machine_rules.specs.Cancels.{drop_by, subtask_rule}
 use Rattle.machine_rules.specs.Ends.{may_tell}
 use Rattle.machine_rules.specs.Finish.{SomeHost}
-use Rattle.machine_rules.specs.Progress.{Asks, Fails, Continues, Never, Ordered, Progress, Stops, Traps, may, or_never, or_trap, trap_if}
+use Rattle.machine_rules.specs.Progress.{Asks, Fails, Continues, Never, OneOf, Ordered, Progress, Stops, Traps, may, or_never, or_trap, trap_if}
 use Rattle.machine_rules.specs.Scripts.{slot_at, value_of}
 use Rattle.machine_rules.specs.Sets.{chosen, join_done_by, join_to_by, may_wake_new, poll_takes_by, set_drop_by, set_rule}
 use Rattle.machine_rules.specs.Step.{op_rule}
@@ -46,6 +46,7 @@ use Rattle.machine_rules.specs.Threads.{resume_later_by, resume_why, thread_new_
 abbrev pub IsFree : Progress → Type 0
 IsFree (Stops l new) = ⊥
 IsFree (Ordered ns next) = (order : List ℕ) → IsFree (next order)
+IsFree (OneOf ns next) = (m : ℕ) → IsFree (next m)
 IsFree (Asks next) = (answer : HostPoll) → IsFree (next answer)
 IsFree p = Unit {0}
 
@@ -56,6 +57,7 @@ goes_on (Traps why) s r t g h = ap has_stopped h.0
 goes_on (Fails i) s r t g h = ap has_stopped h.0
 goes_on Never s r t g h = absurd h
 goes_on (Ordered ns next) s r t g h = goes_on (next h.0) s r t (g h.0) h.1.1
+goes_on (OneOf ns next) s r t g h = goes_on (next h.0) s r t (g h.0) h.1.1
 goes_on (Asks next) s r t g h = goes_on (next h.0) s r t (g h.0) h.1
 
 if_traps : (b : Bool) (why : Trap) (p : Progress) → IsFree p → IsFree (trap_if b why p)

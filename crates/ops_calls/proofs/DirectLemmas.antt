@@ -52,7 +52,7 @@ use Rattle.ops_guests.specs.OpResult.{Implements, IsCurrent}
 use Rattle.ops_guests.specs.Running.{IsRunning}
 use Rattle.ops_guests.specs.declared.op_result.OpResult.TheVariants as op_result
 use Rattle.machine_rules.specs.Ends.{direct_exit_rule, direct_exit_to}
-use Rattle.machine_rules.specs.Progress.{Asks, Continues, Fails, Never, Ordered, Progress, Stops, Traps, trap_if}
+use Rattle.machine_rules.specs.Progress.{Asks, Continues, Fails, Never, OneOf, Ordered, Progress, Stops, Traps, trap_if}
 use Rattle.task_table.specs.declared.id.TableId.{TableId}
 use Rattle.ops_turns.specs.Turn.{CoreInOrder, running_of}
 use Rattle.task_wait.specs.declared.keys.ThreadKey.{ThreadKey}
@@ -178,6 +178,7 @@ goes_base (Traps why) s u t l m said h = let e = h.0 in absurd (cc)
 goes_base (Fails i) s u t l m said h = let e = h.0 in absurd (cc)
 goes_base Never s u t l m said h = h
 goes_base (Ordered ns next) s u t l m said h = (h.0, (h.1.0, goes_base (next h.0) s u t l m said h.1.1))
+goes_base (OneOf ns next) s u t l m said h = (h.0, (h.1.0, goes_base (next h.0) s u t l m said h.1.1))
 goes_base (Asks next) s u t l m said h = (h.0, goes_base (next h.0) s u t l m said h.1)
 
 -- a trap leaves the core before
@@ -188,6 +189,7 @@ traps_base (Traps w) s u t why h = (h.0, refl)
 traps_base (Fails i) s u t why h = let e = h.0 in absurd (cc)
 traps_base Never s u t why h = h
 traps_base (Ordered ns next) s u t why h = (h.0, (h.1.0, traps_base (next h.0) s u t why h.1.1))
+traps_base (OneOf ns next) s u t why h = (h.0, (h.1.0, traps_base (next h.0) s u t why h.1.1))
 traps_base (Asks next) s u t why h = (h.0, traps_base (next h.0) s u t why h.1)
 
 module _ (id : TableId ThreadKey) (v : ℕ) (s u : StateView) (is : u ≡ on_core (set_register (thread_of s id) 0 v) s) (t : Core) where

@@ -27,7 +27,7 @@ use Rattle.ops_guests.specs.declared.op_result.OpResult.TheVariants as op_result
 use Rattle.machine_rules.specs.Finish.{SomeHost}
 use Rattle.machine_rules.specs.Step.{Progresses, op_rule}
 use Rattle.machine_rules.specs.Turns.{goes_to}
-use Rattle.machine_rules.specs.Progress.{Asks, Fails, Continues, Never, Ordered, Progress, Stops, Traps}
+use Rattle.machine_rules.specs.Progress.{Asks, Fails, Continues, Never, OneOf, Ordered, Progress, Stops, Traps}
 use Rattle.ops_turns.proofs.RunLemmas.{settled}
 use Rattle.ops_turns.specs.Turn.{CoreInOrder, is_going, state_at}
 use Rattle.core_primitives.specs.StateView.{StateView, Tags, on_core, thread_number, thread_of}
@@ -156,6 +156,7 @@ pub implements_progresses : (x : State) (n : ℕ) (p : Progress) (r : OpResult) 
 implements_progresses x n (Continues l new m) (op_result.Continues k j said) t h on = let e = h.0 in let is = h.1 in (cc, cc)
 implements_progresses x n (Stops l new) (op_result.Stops k) t h on = let e = h.0 in let is = h.1 in (cc, cc)
 implements_progresses x n (Ordered ns next) r t h on = (h.0, (h.1.0, implements_progresses x n (next h.0) r t h.1.1 on))
+implements_progresses x n (OneOf ns next) r t h on = (h.0, (h.1.0, implements_progresses x n (next h.0) r t h.1.1 on))
 implements_progresses x n (Asks next) r t h on = (h.0, implements_progresses x n (next h.0) r t h.1 on)
 implements_progresses x n Never r t h on = absurd h
 implements_progresses x n (Continues l new m) r t h on = absurd (let e = h.0 in cc)

@@ -33,7 +33,7 @@ use Rattle.ops_guests.specs.declared.op_result.OpResult.{OpResult}
 use Rattle.machine_rules.specs.Calls.{next_thread}
 use Rattle.machine_rules.specs.Finish.{SomeHost}
 use Rattle.machine_rules.specs.Places.{is_fresh}
-use Rattle.machine_rules.specs.Progress.{Asks, Fails, Continues, Never, Ordered, Progress, Stops, Traps, trap_if}
+use Rattle.machine_rules.specs.Progress.{Asks, Fails, Continues, Never, OneOf, Ordered, Progress, Stops, Traps, trap_if}
 use Rattle.machine_rules.specs.Step.{op_rule}
 use Rattle.machine_rules.specs.Task.{ret_bad_rule, ret_rule}
 use Rattle.ops_turns.proofs.OrderLemmas.{named_calls_there}
@@ -80,6 +80,7 @@ met_in_place n (Traps why) s t r h e = ap (in_script n) e.1
 met_in_place n (Fails i) s t r h e = ap (in_script n) e.1
 met_in_place n Never s t r h e = absurd e
 met_in_place n (Ordered ns next) s t r h e = met_in_place n (next e.0) s t r (h e.0) e.1.1
+met_in_place n (OneOf ns next) s t r h e = met_in_place n (next e.0) s t r (h e.0) e.1.1
 met_in_place n (Asks next) s t r h e = met_in_place n (next e.0) s t r (h e.0) e.1
 
 pub host_ops_leave_in_place : HostOpsLeaveInPlace
@@ -96,6 +97,7 @@ returned_in_place n (Stops l new) s t r h e = absurd e
 returned_in_place n (Fails i) s t r h e = absurd e
 returned_in_place n Never s t r h e = absurd e
 returned_in_place n (Ordered ns next) s t r h e = absurd e
+returned_in_place n (OneOf ns next) s t r h e = absurd e
 returned_in_place n (Asks next) s t r h e = absurd e
 
 pub returns_leave_in_place : ReturnsLeaveInPlace

@@ -5,7 +5,7 @@ use Rattle.ops_calls.specs.Shown.{AnswersAreShown, IsAlike, finished_with, is_fi
 use Rattle.ops_guests.specs.Shown.{shown}
 use Rattle.machine_data.specs.Core.{Core}
 use Rattle.machine_data.specs.Labels.{Choice, join_label, ret_label, task_cancel_label, wait_label}
-use Rattle.machine_data.specs.Moves.{PickedEvent, PickedMember, NothingPicked, PickedTaskEvent, picked_event, given_for, handed_on, may_hand_on, passes_check, put_low, taken, withdrawn}
+use Rattle.machine_data.specs.Moves.{PickedEvent, PickedMember, NothingPicked, PickedTaskEvent, picked_event, given_for, handed_on, may_hand_on, passes_check, put_low, taken, withdrawn, waits_cancellable}
 use Rattle.machine_data.specs.Read.{at_handle_limit, backpressure_of, cancel_was_delivered, event_of, fits, has_ended, has_member, has_waiters, op_progress_of, instance_of, is_async_lifted, is_joined, is_watched, join_of, kind_of, result_of, set_at, subtask_at, subtask_ended, task_of, thread_at, undelivered_end, was_cancelled}
 use Rattle.machine_data.specs.Write.{count_work, set_event, set_join, set_saved_callee}
 use Rattle.machine_data.specs.declared.component.Callee.{Callee}
@@ -40,7 +40,7 @@ use Rattle.machine_data.specs.declared.statuses.TaskEvent.TheVariants as own
 use Rattle.machine_data.specs.declared.statuses.Status.{Status}
 use Rattle.machine_data.specs.declared.statuses.Status.TheVariants as status
 use Rattle.machine_rules.specs.Calls.{AtOnce, Failing, FirstPoll, Later, call_begins, call_host_by, call_let_go, call_resumes, call_rule, call_status_by, call_sync_begins, call_sync_host_by, call_sync_host_rule, call_sync_rule, call_sync_status_by, call_taken, call_with_handle, first_polled, heard_first, host_valued, host_with_handle, polled_first, status_found, work_deleted}
-use Rattle.machine_rules.specs.Cancels.{AlreadyEnded, Async, CallbackWaits, CallbackYields, CancelCase, Mode, OtherwiseRuns, StartNotRun, Sync, after_cancel_by, cancel_aborts_host, cancel_asks, cancel_by, cancel_case, cancel_ended_by, cancel_found_by, cancel_guest_by, cancel_host_by, cancel_label, cancel_resumed, cancel_rule, cancel_subtask_by, cancel_unended_by, drop_by, subtask_rule, unnamed}
+use Rattle.machine_rules.specs.Cancels.{AlreadyEnded, AskedBefore, Async, CallbackYields, CancelCase, Mode, OtherwiseRuns, StartNotRun, Sync, ThreadWaits, after_cancel_by, cancel_aborts_host, cancel_asks, cancel_by, cancel_case, cancel_ended_by, cancel_found_by, cancel_guest_by, cancel_host_by, cancel_label, cancel_resumed, cancel_rule, cancel_subtask_by, cancel_unended_by, drop_by, subtask_rule, unnamed}
 use Rattle.machine_rules.specs.Ends.{cancelled, may_tell, returned}
 use Rattle.machine_rules.specs.Finish.{Doer, NoAnswer, OneNumber, finish}
 use Rattle.machine_rules.specs.Progress.{Continues, Progress, may, or_never, or_trap, trap_if}
@@ -104,7 +104,7 @@ module _ (d b : Doer) (n : ℕ) where
 
   begins_by : (ch : Choice) (s : Core) (x : ℕ) (f : Bool) → IsAlike d b n (wait_begins_by d n ch s x f) (wait_begins_by b n ch s x f)
   begins_by ch s x true = if_traps (not (passes_check (instance_of n s) s)) _ _ _ (refl, refl)
-  begins_by ch s x false = if_given (picked_event false (task_of n s) x (chosen n ch s) s) (wait_takes_by d n ch s) (wait_takes_by b n ch s) (λ g. (refl, (refl, (refl, (taken g (task_of n s) s, (refl, refl))))))
+  begins_by ch s x false = if_given (picked_event (waits_cancellable (task_of n s) s) (task_of n s) x (chosen n ch s) s) (wait_takes_by d n ch s) (wait_takes_by b n ch s) (λ g. (refl, (refl, (refl, (taken g (task_of n s) s, (refl, refl))))))
 
   begins : (h : ℕ) (ch : Choice) (s : Core) → IsAlike d b n (wait_rule d n h ch s op_progress.Fresh) (wait_rule b n h ch s op_progress.Fresh)
   begins h ch s = if_found (set_at (instance_of n s) h s) _ (λ x. wait_begins_by d n ch s x (finds_nothing n x s)) (λ x. wait_begins_by b n ch s x (finds_nothing n x s)) (λ x. begins_by ch s x (finds_nothing n x s))
@@ -130,7 +130,7 @@ module _ (d b : Doer) (n : ℕ) where
   goes_on x ch s (PickedMember sub) = member_goes x _ ch.woken sub s
 
   waits : (h : ℕ) (ch : Choice) (s : Core) (f : OpProgress) → IsAlike d b n (wait_rule d n h ch s f) (wait_rule b n h ch s f)
-  waits h ch s (op_progress.Waits x) = if_given (picked_event false (task_of n s) x (chosen n ch s) s) (wait_goes_on_by d n x ch s) (wait_goes_on_by b n x ch s) (λ g. goes_on x ch s g)
+  waits h ch s (op_progress.Waits x) = if_given (picked_event (waits_cancellable (task_of n s) s) (task_of n s) x (chosen n ch s) s) (wait_goes_on_by d n x ch s) (wait_goes_on_by b n x ch s) (λ g. goes_on x ch s g)
   waits h ch s op_progress.Fresh = begins h ch s
   waits h ch s (op_progress.Calls sub) = begins h ch s
   waits h ch s (op_progress.Answered v) = begins h ch s
@@ -267,7 +267,8 @@ module _ (d b : Doer) (n : ℕ) where
   guests : (mode : Mode) (k : ℕ) (s : Core) (x : CancelCase) → IsAlike d b n (cancel_guest_by d mode n k s x) (cancel_guest_by b mode n k s x)
   guests mode k s AlreadyEnded = ended mode (subtask.Guest k) s (undelivered_end (event_of (subtask.Guest k) s))
   guests mode k s StartNotRun = cancel_said mode 3 (set_saved_callee n None (withdrawn k s))
-  guests mode k s CallbackWaits = (refl, refl)
+  guests mode k s AskedBefore = refl
+  guests mode k s ThreadWaits = (refl, λ m. (refl, refl))
   guests mode k s CallbackYields = (refl, refl)
   guests mode k s OtherwiseRuns = afterwards mode (subtask.Guest k) (cancel_asks k s)
 

@@ -14,7 +14,7 @@ use Rattle.ops_guests.specs.declared.op_result.OpAnswer.{OpAnswer}
 use Rattle.ops_guests.specs.declared.op_result.OpAnswer.TheVariants as op_answer
 use Rattle.machine_rules.specs.Finish as rules
 use Rattle.machine_rules.specs.Finish.{Doer, NoAnswer, OneEvent, OneNumber, finish}
-use Rattle.machine_rules.specs.Progress.{Asks, Fails, Continues, Never, Ordered, Progress, Stops, Traps}
+use Rattle.machine_rules.specs.Progress.{Asks, Fails, Continues, Never, Ordered, Progress, Stops, Traps, OneOf}
 use Rattle.machine_rules.specs.Step.{op_rule}
 
 -- ---- What an op is finished with
@@ -48,6 +48,7 @@ IsAlike d e n (Stops l a) (Stops k b) = (l ≡ k) × (a ≡ b)
 IsAlike d e n (Traps why) (Traps other) = why ≡ other
 IsAlike d e n (Fails i) (Fails j) = i ≡ j
 IsAlike d e n Never Never = Unit {0}
+IsAlike d e n (OneOf ns next) (OneOf ms then) = (ns ≡ ms) × ((m : ℕ) → IsAlike d e n (next m) (then m))
 IsAlike d e n (Ordered ns next) (Ordered ms then) = (ns ≡ ms) × ((order : List ℕ) → IsAlike d e n (next order) (then order))
 IsAlike d e n (Asks next) (Asks then) = (answer : HostPoll) → IsAlike d e n (next answer) (then answer)
 IsAlike d e n p q = ⊥

@@ -34,7 +34,7 @@ use Rattle.ops_guests.specs.declared.op_result.OpResult.TheVariants as op_result
 use Rattle.ops_guests.specs.declared.op_result.OpAnswer.TheVariants as op_answer
 use Rattle.machine_rules.specs.Ends.{exit_rule_for, implicit_exit_rule, kind_exit_rule}
 use Rattle.machine_rules.specs.Finish.{Doer, SomeHost}
-use Rattle.machine_rules.specs.Progress.{Asks, Fails, Continues, Never, Ordered, Progress, Stops, Traps}
+use Rattle.machine_rules.specs.Progress.{Asks, Fails, Continues, Never, OneOf, Ordered, Progress, Stops, Traps}
 use Rattle.machine_rules.specs.Scripts.{value_of}
 use Rattle.machine_rules.specs.Step.{answer_register, op_rule}
 use Rattle.machine_rules.specs.Task.{task_rule}
@@ -52,6 +52,7 @@ module _ (A : Type 0) (k : AnswerKind) (n : ℕ) (s : Core) where
   met_below (Fails i) r t h e = let p = ap (λ (c : Core). position_of n c) e.1 in grind (arith, p)
   met_below Never r t h e = absurd e
   met_below (Ordered ns next) r t h e = met_below (next e.0) r t (h e.0) e.1.1
+  met_below (OneOf ns next) r t h e = met_below (next e.0) r t (h e.0) e.1.1
   met_below (Asks next) r t h e = met_below (next e.0) r t (h e.0) e.1
 
   met_said : (p : Progress) (r : OpResult) (t : Core) → LeavesPlace A k n s p → Implements p s r t → answers_so k r ≡ true
@@ -61,6 +62,7 @@ module _ (A : Type 0) (k : AnswerKind) (n : ℕ) (s : Core) where
   met_said (Fails i) r t h e = ap (answers_so k) e.0
   met_said Never r t h e = absurd e
   met_said (Ordered ns next) r t h e = met_said (next e.0) r t (h e.0) e.1.1
+  met_said (OneOf ns next) r t h e = met_said (next e.0) r t (h e.0) e.1.1
   met_said (Asks next) r t h e = met_said (next e.0) r t (h e.0) e.1
 
 ended_place : (n : ℕ) (r : OpResult) (t : Core) → in_script n (ended SomeHost n r t) ≡ in_script n t

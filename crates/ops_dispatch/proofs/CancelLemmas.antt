@@ -58,7 +58,8 @@ guest_shows : (mode : Mode) (n : ℕ) (r : Doer) (k : ℕ) (s : Core) (x : Cance
 guest_shows mode n r k s cancels.AlreadyEnded = ended_shows mode n r (subtask.Guest k) s (undelivered_end (event_of (subtask.Guest k) s))
 guest_shows cancels.Async n r k s cancels.StartNotRun = (refl, refl)
 guest_shows cancels.Sync n r k s cancels.StartNotRun = (refl, refl)
-guest_shows mode n r k s cancels.CallbackWaits = refl
+guest_shows mode n r k s cancels.AskedBefore = tt
+guest_shows mode n r k s cancels.ThreadWaits = λ m. refl
 guest_shows mode n r k s cancels.CallbackYields = refl
 guest_shows mode n r k s cancels.OtherwiseRuns = by_end_shows mode n r (subtask.Guest k) (cancel_asks k s) (subtask_ended (subtask.Guest k) (cancel_asks k s))
 

@@ -8,9 +8,9 @@ use Rattle.machine_data.proofs.CommuteLemmas.{get-change}
 use Rattle.machine_data.proofs.MapLemmas.{change-field}
 use Rattle.machine_data.specs.Core.{Core}
 use Rattle.machine_data.specs.Maps.{get, get-insert, get-remove}
-use Rattle.machine_data.specs.Moves.{PickedEvent, PickedMember, NothingPicked, PickedTaskEvent, behind, behind_one, call_settled, checked, displaced, first_entry, group_settled, handed_on, held_why_of, hands_on, is_callback_waiter, is_deletable, is_group_done, less_switch, newest, older, passed_on, promoted, promoted_first, promoted_unless, published, put_high, put_low, put_switch, released, released_one, resumed_all, resumed_callers, stopped, stopped_at, taken, unblocked, unqueued, wake, wake_joined, waken_by, why_of, withdrawn}
+use Rattle.machine_data.specs.Moves.{PickedEvent, PickedMember, NothingPicked, PickedTaskEvent, behind, behind_one, call_settled, checked, displaced, first_entry, group_settled, handed_on, held_why_of, hands_on, is_callback_waiter, is_deletable, is_group_done, less_switch, newest, older, passed_on, promoted, promoted_first, promoted_unless, published, put_high, put_low, put_switch, released, released_one, resumed_all, resumed_callers, stopped, stopped_at, stopped_last, taken, unblocked, unqueued, wake, wake_joined, waken_by, why_of, withdrawn}
 use Rattle.machine_data.specs.Read.{blocked_on, call_group, caller_of, callers_of, foot_of, goal_of, join_of, position_of}
-use Rattle.machine_data.specs.Write.{add_call, add_thread, count_work, give_result, on_call, on_thread, on_work, push_high, push_high_first, push_low, remove_call, remove_group, remove_thread, remove_work, set_callers, set_cancel_delivered, set_end, set_event, set_exited, set_high, set_op_progress, set_join, set_low, set_task_event, set_place, set_register, set_result, set_saved_callee, set_saved_own, set_subtask_handle, set_switch, set_thread_handle, set_uninteresting}
+use Rattle.machine_data.specs.Write.{add_call, add_thread, arrival, arrive, count_work, give_result, on_call, on_thread, on_work, push_high, push_high_first, push_low, remove_call, remove_group, remove_thread, remove_work, set_callers, set_cancel_delivered, set_end, set_event, set_exited, set_high, set_op_progress, set_join, set_low, set_task_event, set_place, set_register, set_result, set_saved_callee, set_saved_own, set_subtask_handle, set_switch, set_thread_handle, set_uninteresting}
 use Rattle.machine_data.specs.declared.component.Callee.{Callee}
 use Rattle.machine_data.specs.declared.component.ExportKind.{ExportKind}
 use Rattle.machine_data.specs.declared.records.CallEnd.{CallEnd}
@@ -58,6 +58,10 @@ module _ (n : ℕ) where
   pub at_place : (m : ℕ) (p : Place) (s : Core) → in_script n (set_place m p s) ≡ in_script n s
   unfolding set_place
   at_place m p s = on m (λ t. record t { place = p }) s (λ t. refl) (λ t. refl)
+
+  pub at_arrive : (m : ℕ) (s : Core) → in_script n (arrive m s) ≡ in_script n s
+  unfolding arrive
+  at_arrive m s = on m (λ t. record t { came = arrival s.version s.arrivals t.came }) s (λ t. refl) (λ t. refl)
 
   pub at_far : (m : ℕ) (h : OpProgress) (s : Core) → in_script n (set_op_progress m h s) ≡ in_script n s
   unfolding set_op_progress
@@ -158,6 +162,9 @@ module _ (n : ℕ) where
 
   pub at_stopped_at : (m : ℕ) (p : Place) (s : Core) → in_script n (stopped_at m p s) ≡ in_script n s
   at_stopped_at m p s = at_place m p (stopped (foot_of m s) s) ∙ at_stopped (foot_of m s) s
+
+  pub at_stopped_last : (m : ℕ) (p : Place) (s : Core) → in_script n (stopped_last m p s) ≡ in_script n s
+  at_stopped_last m p s = at_place m p _ ∙ (at_arrive m (stopped (foot_of m s) s) ∙ at_stopped (foot_of m s) s)
 
   -- ---- Wakes and tellings
 

@@ -2,14 +2,14 @@
 use Rattle.machine_data.specs.Statuses.{status_code}
 use Rattle.ops_guests.specs.Shown.{shown}
 use Rattle.std.proofs.Common.{ap, refl, ◌∙◌}
-use Rattle.std.specs.Prelude.{Bool, List, None, Option, Some, [], false, if◌then◌else◌, is_some, nat_le, not, suc, true, zero, ℕ, ◌==◌, ◌∷◌, ◌≡◌}
-use Rattle.ops_dispatch.proofs.InPlaceLemmas.{at_behind, at_cancelled, at_checked, at_deleted, at_done, at_event, at_far, at_handed, at_handle, at_join, at_low, at_place, at_released, at_saved_callee, at_saved_own, at_settled, at_stopped, at_stopped_at, at_switch, at_taken, at_thread_handle, at_unless, at_wake, kept, left_made, left_new, left_returned, left_valued, left_withdrawn, then_same}
+use Rattle.std.specs.Prelude.{Bool, List, None, Option, Some, [], false, if◌then◌else◌, is_some, nat_le, not, suc, true, zero, ℕ, ◌&&◌, ◌==◌, ◌∷◌, ◌≡◌}
+use Rattle.ops_dispatch.proofs.InPlaceLemmas.{at_behind, at_cancelled, at_checked, at_deleted, at_done, at_event, at_far, at_handed, at_handle, at_join, at_low, at_place, at_released, at_saved_callee, at_saved_own, at_settled, at_stopped, at_stopped_at, at_stopped_last, at_switch, at_taken, at_thread_handle, at_unless, at_wake, kept, left_made, left_new, left_returned, left_valued, left_withdrawn, then_same}
 use Rattle.ops_dispatch.specs.InPlace.{ANumber, AnEvent, AnswerKind, CallsItself, HostLeavesInPlace, IsInPlace, IsUnderWay, KeepsPlace, LeavesPlace, LeftAt, NoNumber, OpsLeavePlaces, answers_of, call_answers, in_script, is_finished, is_return, may_answer, set_answers, thread_answers}
 use Rattle.machine_data.specs.Core.{Core}
 use Rattle.machine_data.specs.Labels.{Choice, join_label, ret_label, task_cancel_label, wait_label}
-use Rattle.machine_data.specs.Moves.{PickedEvent, PickedMember, NothingPicked, PickedTaskEvent, behind, picked_event, may_hand_on, passes_check, put_switch}
-use Rattle.machine_data.specs.Read.{at_handle_limit, backpressure_of, cancel_was_delivered, event_of, fits, foot_of, has_ended, has_member, has_waiters, op_progress_of, instance_of, is_async_lifted, is_at, is_callback_yield, is_joined, is_watched, join_of, kind_of, registers_of, saved_callee_of, set_at, subtask_at, subtask_ended, task_of, thread_at, thread_group, undelivered_end, was_cancelled, was_started}
-use Rattle.machine_data.specs.Write.{add_set, add_work, count_work, free_handle, give_handle, give_thread_handle, on_call, on_instance, on_work, push_high, remove_set, set_backpressure, set_cancelled, set_do_not_suspend, set_join, set_task_event, set_phase, set_result, set_started}
+use Rattle.machine_data.specs.Moves.{PickedEvent, PickedMember, NothingPicked, PickedTaskEvent, behind, picked_event, may_hand_on, passes_check, put_switch, waits_cancellable}
+use Rattle.machine_data.specs.Read.{at_handle_limit, backpressure_of, cancel_was_asked, cancel_was_delivered, event_of, fits, foot_of, has_ended, has_member, has_waiters, op_progress_of, instance_of, is_async_lifted, is_at, is_callback_yield, is_joined, is_nil, is_second, is_watched, join_of, kind_of, registers_of, saved_callee_of, set_at, subtask_at, subtask_ended, task_of, thread_at, thread_group, undelivered_end, was_cancelled, was_started}
+use Rattle.machine_data.specs.Write.{add_set, add_work, count_work, free_handle, give_handle, give_thread_handle, on_call, on_instance, on_work, push_high, remove_set, set_backpressure, set_cancel_asked, set_cancelled, set_do_not_suspend, set_join, set_task_event, set_phase, set_result, set_started}
 use Rattle.machine_data.specs.declared.component.Callee.{Callee}
 use Rattle.machine_data.specs.declared.component.Component.{Component}
 use Rattle.machine_data.specs.declared.component.ExportKind.{ExportKind}
@@ -47,11 +47,11 @@ use Rattle.machine_data.specs.declared.statuses.Given.{Given}
 use Rattle.machine_data.specs.declared.statuses.Status.{Status}
 use Rattle.machine_data.specs.declared.statuses.Status.TheVariants as status
 use Rattle.machine_rules.specs.Calls.{AtOnce, Failing, FirstPoll, Later, call_begins, call_clears_flag, call_host_by, call_let_go, call_made, call_queues, call_resumes, call_rule, call_status_by, call_stops, call_sync_begins, call_sync_host_by, call_sync_host_rule, call_sync_host_stops, call_sync_rule, call_sync_status_by, call_sync_stops, call_taken, call_with_handle, enter_runs, first_polled, heard_first, host_with_handle, next_thread, polled_first, put_back, status_found, sync_sets_flag, with_handle, with_thread_handle, work_queued}
-use Rattle.machine_rules.specs.Cancels.{AlreadyEnded, Async, CallbackWaits, CallbackYields, CancelCase, Mode, OtherwiseRuns, StartNotRun, Sync, after_cancel_by, behind_switch, cancel_aborts_host, cancel_asks, cancel_by, cancel_case, cancel_ended_by, cancel_found_by, cancel_goes_behind, cancel_guest_by, cancel_label, cancel_promotes_yield, cancel_resumed, cancel_rule, cancel_stops, cancel_subtask_by, cancel_unended_by, cancel_wakes_callback, drop_by, is_callback_wait, subtask_rule, subtask_settled, unnamed}
+use Rattle.machine_rules.specs.Cancels.{AlreadyEnded, AskedBefore, Async, CallbackYields, CancelCase, Mode, OtherwiseRuns, StartNotRun, Sync, ThreadWaits, after_cancel_by, behind_switch, cancel_aborts_host, cancel_asks, cancel_by, cancel_case, cancel_ended_by, cancel_found_by, cancel_goes_behind, cancel_guest_by, cancel_label, cancel_promotes_yield, cancel_resumed, cancel_rule, cancel_stops, cancel_subtask_by, cancel_unended_by, cancel_wakes, cancellable, drop_by, subtask_rule, subtask_settled, unnamed}
 use Rattle.machine_rules.specs.Ends.{may_tell}
 use Rattle.machine_rules.specs.Finish.{SomeHost}
 use Rattle.machine_rules.specs.OpParts.{calls_host}
-use Rattle.machine_rules.specs.Progress.{Asks, Fails, Continues, Never, Ordered, Progress, Stops, Traps, may, or_never, or_trap, trap_if}
+use Rattle.machine_rules.specs.Progress.{Asks, Fails, Continues, Never, OneOf, Ordered, Progress, Stops, Traps, may, or_never, or_trap, trap_if}
 use Rattle.machine_rules.specs.Scripts.{export_kind, host_at, slot_at, value_of, values_in}
 use Rattle.machine_rules.specs.Sets.{chosen, finds_nothing, join_done_by, join_to_by, may_wake_new, moved_over, poll_takes_by, set_closed, set_drop_by, set_opened, set_rule, wait_begins_by, wait_goes_on_by, wait_rule, wait_stops, wait_stops_checked, wait_takes_by, wakes_joined}
 use Rattle.machine_rules.specs.Step.{op_rule}
@@ -71,7 +71,7 @@ module _ (n : ℕ) where
 
   at_waits : (x : ℕ) (s : Core) → in_script n (wait_stops n x s) ≡ in_script n s
   unfolding wait_stops
-  at_waits x s = at_far n n _ _ ∙ at_stopped_at n n _ s
+  at_waits x s = at_far n n _ _ ∙ at_stopped_last n n _ s
 
   at_waits_checked : (x : ℕ) (s : Core) → in_script n (wait_stops_checked n x s) ≡ in_script n s
   unfolding wait_stops_checked
@@ -188,7 +188,7 @@ module _ (n : ℕ) where
   at_cancel_stops sub s = at_far n n _ _ ∙ (at_stopped_at n n _ _ ∙ (at_checked n _ _ ∙ (at_join n sub _ _ ∙ at_saved_callee n n None s)))
 
   at_asks : (k : ℕ) (s : Core) → in_script n (cancel_asks k s) ≡ in_script n s
-  unfolding cancel_asks set_task_event on_call
+  unfolding cancel_asks set_task_event set_cancel_asked on_call
   at_asks k s = refl
 
   at_cancel_resumed : (sub : Subtask) (s : Core) → in_script n (cancel_resumed n sub s) ≡ in_script n s
@@ -207,9 +207,9 @@ module _ (n : ℕ) where
   unfolding cancel_goes_behind set_do_not_suspend on_instance
   at_goes_behind k s = at_far n n _ _ ∙ (at_behind_switch s.queues.switch _ ∙ (at_join n (subtask.Guest k) _ _ ∙ at_saved_callee n n _ s))
 
-  at_callback : (k : ℕ) (s : Core) → in_script n (cancel_wakes_callback n k s) ≡ in_script n s
-  unfolding cancel_wakes_callback
-  at_callback k s = at_goes_behind k _ ∙ (at_switch n k _ _ ∙ at_asks k s)
+  at_woken : (k m : ℕ) (s : Core) → in_script n (cancel_wakes n k m s) ≡ in_script n s
+  unfolding cancel_wakes
+  at_woken k m s = at_goes_behind k _ ∙ (at_switch n m _ _ ∙ at_asks k s)
 
   at_yield : (k : ℕ) (s : Core) → in_script n (cancel_promotes_yield n k s) ≡ in_script n s
   unfolding cancel_promotes_yield
@@ -340,7 +340,7 @@ module _ (A : Type 0) (n : ℕ) (s : Core) where
 
   begins_by : (ch : Choice) (x : ℕ) (f : Bool) → Hears (wait_begins_by SomeHost n ch s x f)
   begins_by ch x true = if_traps A AnEvent n s (not (passes_check (instance_of n s) s)) _ _ (at (at_waits_checked n x s))
-  begins_by ch x false = if_given A AnEvent n s (picked_event false (task_of n s) x (chosen n ch s) s) (wait_takes_by SomeHost n ch s) (λ g. (at (at_done n _ ∙ at_taken n g _ s), refl))
+  begins_by ch x false = if_given A AnEvent n s (picked_event (waits_cancellable (task_of n s) s) (task_of n s) x (chosen n ch s) s) (wait_takes_by SomeHost n ch s) (λ g. (at (at_done n _ ∙ at_taken n g _ s), refl))
 
   goes_on : (x : ℕ) (ch : Choice) (g : PickedEvent) → Hears (wait_goes_on_by SomeHost n x ch s g)
   goes_on x ch NothingPicked = at (at_waits n x s)
@@ -348,7 +348,7 @@ module _ (A : Type 0) (n : ℕ) (s : Core) where
   goes_on x ch (PickedMember sub) = if_lawful A AnEvent n s (may_hand_on x (PickedMember sub) ch.woken s) _ (at (at_done n _ ∙ (at_taken n (PickedMember sub) _ _ ∙ at_handed n x (PickedMember sub) ch.woken s)), waited_said n _ ch.woken)
 
   waits : (h : ℕ) (ch : Choice) (f : OpProgress) → Hears (wait_rule SomeHost n h ch s f)
-  waits h ch (op_progress.Waits x) = if_given A AnEvent n s (picked_event false (task_of n s) x (chosen n ch s) s) (wait_goes_on_by SomeHost n x ch s) (goes_on x ch)
+  waits h ch (op_progress.Waits x) = if_given A AnEvent n s (picked_event (waits_cancellable (task_of n s) s) (task_of n s) x (chosen n ch s) s) (wait_goes_on_by SomeHost n x ch s) (goes_on x ch)
   waits h ch _ = if_found A AnEvent n s (set_at (instance_of n s) h s) _ (λ x. wait_begins_by SomeHost n ch s x (finds_nothing n x s)) (λ x. begins_by ch x (finds_nothing n x s))
 
   joined : (w : Option ℕ) (x : Option ℕ) (sub : Subtask) → Left (join_done_by SomeHost n sub w s x)
@@ -473,19 +473,21 @@ module _ (A : Type 0) (n : ℕ) (s : Core) where
       guests : (k : ℕ) (x : CancelCase) → (A → x ≡ StartNotRun → (n == k) ≡ false) → Gives (cancel_guest_by SomeHost mode n k s x)
       guests k AlreadyEnded own = ended mode (subtask.Guest k) s (undelivered_end (event_of (subtask.Guest k) s)) refl
       guests k StartNotRun own = (from (at_done n _ ∙ at_saved_callee n n None _) (left_withdrawn A n k s (λ a. own a refl)), cancel_said mode n 3)
-      guests k CallbackWaits own = at (at_callback n k s)
+      guests k AskedBefore own = tt
+      guests k ThreadWaits own = λ m. at (at_woken n k m s)
       guests k CallbackYields own = at (at_yield n k s)
       guests k OtherwiseRuns own = afterwards mode (subtask.Guest k) (cancel_asks k s) (at_asks n k s)
 
       subtasks : (sub : Subtask) → (A → (k : ℕ) → sub ≡ subtask.Guest k → was_started k s ≡ false → (n == k) ≡ false) → Gives (cancel_subtask_by SomeHost mode n s sub)
-      subtasks (subtask.Guest k) own = guests k (cancel_case k s) (λ a e. own a k refl (unstarted (has_ended k s) (was_started k s) (is_at k s is_callback_wait) (is_at k s is_callback_yield) e))
+      subtasks (subtask.Guest k) own = guests k (cancel_case k s) (λ a e. own a k refl (unstarted (has_ended k s) (was_started k s) (is_second s.version && cancel_was_asked k s) (is_nil (cancellable k s)) (is_at k s is_callback_yield) e))
         where
-          unstarted : (a b x y : Bool) → (if a then AlreadyEnded else if not b then StartNotRun else if x then CallbackWaits else if y then CallbackYields else OtherwiseRuns) ≡ StartNotRun → b ≡ false
-          unstarted true b x y e = absurd (cc)
-          unstarted false false x y e = refl
-          unstarted false true true y e = absurd (cc)
-          unstarted false true false true e = absurd (cc)
-          unstarted false true false false e = absurd (cc)
+          unstarted : (a b x y z : Bool) → (if a then AlreadyEnded else if not b then StartNotRun else if x then AskedBefore else if not y then ThreadWaits else if z then CallbackYields else OtherwiseRuns) ≡ StartNotRun → b ≡ false
+          unstarted true b x y z e = absurd (cc)
+          unstarted false false x y z e = refl
+          unstarted false true true y z e = absurd (cc)
+          unstarted false true false false z e = absurd (cc)
+          unstarted false true false true true e = absurd (cc)
+          unstarted false true false true false e = absurd (cc)
       subtasks (subtask.Host i) own = if_traps A ANumber n s (was_cancelled i s) _ _ (afterwards mode (subtask.Host i) (cancel_aborts_host i s) (at_aborts n i s))
 
       found : (o : Option Subtask) → (A → (k : ℕ) → o ≡ Some (subtask.Guest k) → was_started k s ≡ false → (n == k) ≡ false) → Gives (or_trap o trap.BadHandle (cancel_found_by SomeHost mode n s))
@@ -541,6 +543,7 @@ in_place A k n s (Traps why) a h = tt
 in_place A k n s (Fails i) a h = tt
 in_place A k n s Never a h = tt
 in_place A k n s (Ordered ns next) a h = λ order. in_place A k n s (next order) a (h order)
+in_place A k n s (OneOf ns next) a h = λ m. in_place A k n s (next m) a (h m)
 in_place A k n s (Asks next) a h = λ answer. in_place A k n s (next answer) a (h answer)
 
 pub host_leaves_in_place : HostLeavesInPlace

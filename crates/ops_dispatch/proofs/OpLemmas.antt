@@ -37,7 +37,7 @@ use Rattle.machine_rules.proofs.StandLemmas.{by_number, eq_refl}
 use Rattle.machine_rules.specs.Ends.{direct_exit_to}
 use Rattle.machine_rules.specs.Finish.{Doer, SomeHost}
 use Rattle.machine_rules.specs.Outcome.{outcome_of_label}
-use Rattle.machine_rules.specs.Progress.{Asks, Fails, Continues, Never, Ordered, Progress, Stops, Traps, trap_if}
+use Rattle.machine_rules.specs.Progress.{Asks, Fails, Continues, Never, OneOf, Ordered, Progress, Stops, Traps, trap_if}
 use Rattle.task_table.specs.declared.id.TableId.{TableId}
 use Rattle.task_wait.specs.declared.keys.ThreadKey.{ThreadKey}
 use Rattle.core_primitives.specs.StateView.{KeepsBut, Lost, StateView, lost_call, thread_of, work_of}
@@ -129,6 +129,7 @@ stops_unanswered (Traps why) h = tt
 stops_unanswered (Fails i) h = tt
 stops_unanswered Never h = tt
 stops_unanswered (Ordered ns next) h = λ order. stops_unanswered (next order) (h order)
+stops_unanswered (OneOf ns next) h = λ m. stops_unanswered (next m) (h m)
 stops_unanswered (Asks next) h = λ answer. stops_unanswered (next answer) (h answer)
 
 -- the rule is the same whoever has it done
@@ -193,6 +194,7 @@ came_quiet (Traps why) s r t g h = subst CameQuiet (sym h.0) tt
 came_quiet (Fails i) s r t g h = subst CameQuiet (sym h.0) tt
 came_quiet Never s r t g h = absurd h
 came_quiet (Ordered ns next) s r t g h = came_quiet (next h.0) s r t (g h.0) h.1.1
+came_quiet (OneOf ns next) s r t g h = came_quiet (next h.0) s r t (g h.0) h.1.1
 came_quiet (Asks next) s r t g h = came_quiet (next h.0) s r t (g h.0) h.1
 
 -- so whoever is current then goes on

@@ -4,7 +4,7 @@ use Rattle.std.proofs.Common.{refl}
 use Rattle.std.specs.Prelude.{Bool, List, None, Option, Some, false, nat_le, nat_lt, not, suc, true, zero, ℕ, ◌%◌, ◌/◌, ◌==◌, ◌≡◌}
 use Rattle.machine_data.specs.Core.{Core}
 use Rattle.machine_data.specs.Labels.{Choice, exit_label, ret_label, task_cancel_label, wait_label}
-use Rattle.machine_data.specs.Moves.{PickedEvent, PickedMember, NothingPicked, PickedTaskEvent, picked_event, may_hand_on, passes_check, put_low}
+use Rattle.machine_data.specs.Moves.{PickedEvent, PickedMember, NothingPicked, PickedTaskEvent, picked_event, may_hand_on, passes_check, put_low, waits_cancellable}
 use Rattle.machine_data.specs.Read.{at_handle_limit, backpressure_of, cancel_was_delivered, fits, foot_of, has_ended, has_member, has_waiters, op_progress_of, instance_of, is_async_lifted, kind_of, new_handle, new_thread_handle, set_at, task_of, thread_at}
 use Rattle.machine_data.specs.declared.component.Component.{Component}
 use Rattle.machine_data.specs.declared.component.Slot.{Slot}
@@ -163,13 +163,13 @@ module _ (d : Doer) (n : ℕ) (ch : Choice) (s : Core) where
 
   begins_shows : (x : ℕ) (b : Bool) → ShowsAs n (wait_begins_by d n ch s x b)
   begins_shows x true = if_traps (here n) (not (passes_check (instance_of n s) s)) trap.CannotBlockSyncTask (Stops (label.Thread (thread_label.Pauses n)) (wait_stops_checked n x s)) refl
-  begins_shows x false = if_given (here n) (picked_event false (task_of n s) x (chosen n ch s) s) (wait_takes_by d n ch s) (λ g. (refl, refl))
+  begins_shows x false = if_given (here n) (picked_event (waits_cancellable (task_of n s) s) (task_of n s) x (chosen n ch s) s) (wait_takes_by d n ch s) (λ g. (refl, refl))
 
   fresh_shows : (h : ℕ) → ShowsAs n (wait_rule d n h ch s op_progress.Fresh)
   fresh_shows h = if_found (here n) (set_at (instance_of n s) h s) trap.BadHandle (λ x. wait_begins_by d n ch s x (finds_nothing n x s)) (λ x. begins_shows x (finds_nothing n x s))
 
   wait_shows : (h : ℕ) (f : OpProgress) → ShowsAs n (wait_rule d n h ch s f)
-  wait_shows h (op_progress.Waits x) = if_given (here n) (picked_event false (task_of n s) x (chosen n ch s) s) (wait_goes_on_by d n x ch s) (goes_on_shows x)
+  wait_shows h (op_progress.Waits x) = if_given (here n) (picked_event (waits_cancellable (task_of n s) s) (task_of n s) x (chosen n ch s) s) (wait_goes_on_by d n x ch s) (goes_on_shows x)
   wait_shows h op_progress.Fresh = fresh_shows h
   wait_shows h (op_progress.Calls sub) = fresh_shows h
   wait_shows h (op_progress.Answered v) = fresh_shows h

@@ -8,7 +8,7 @@ use Rattle.machine_data.specs.declared.trap.Trap.{Trap}
 use Rattle.ops_guests.specs.OpResult.{Implements}
 use Rattle.ops_guests.specs.declared.op_result.OpResult.{OpResult}
 use Rattle.machine_rules.specs.Outcome.{outcome_of_label}
-use Rattle.machine_rules.specs.Progress.{Asks, Fails, Continues, Never, Ordered, Progress, Stops, Traps, may, or_never, or_trap, trap_if}
+use Rattle.machine_rules.specs.Progress.{Asks, Fails, Continues, Never, OneOf, Ordered, Progress, Stops, Traps, may, or_never, or_trap, trap_if}
 use Rattle.core_primitives.specs.StateView.{StateView}
 
 -- who goes on is so, and the label gives no outcome
@@ -16,6 +16,7 @@ abbrev pub ShowsFor : (ℕ → Type 0) → Progress → Type 0
 ShowsFor P (Continues l new m) = P m × (outcome_of_label l ≡ None)
 ShowsFor P (Stops l new) = outcome_of_label l ≡ None
 ShowsFor P (Ordered ns next) = (order : List ℕ) → ShowsFor P (next order)
+ShowsFor P (OneOf ns next) = (m : ℕ) → ShowsFor P (next m)
 ShowsFor P (Asks next) = (answer : HostPoll) → ShowsFor P (next answer)
 ShowsFor P _ = Unit {0}
 
@@ -40,6 +41,7 @@ shows_of n (Traps why) s r t g h = subst (Shows n) (sym h.0) tt
 shows_of n (Fails i) s r t g h = subst (Shows n) (sym h.0) tt
 shows_of n Never s r t g h = absurd h
 shows_of n (Ordered ns next) s r t g h = shows_of n (next h.0) s r t (g h.0) h.1.1
+shows_of n (OneOf ns next) s r t g h = shows_of n (next h.0) s r t (g h.0) h.1.1
 shows_of n (Asks next) s r t g h = shows_of n (next h.0) s r t (g h.0) h.1
 
 pub stops_goes : (v : StateView) (p : Progress) (s : Core) (r : OpResult) (t : Core) → StopsAs p → Implements p s r t → OpGoesOn r v
@@ -49,6 +51,7 @@ stops_goes v (Traps why) s r t g h = subst (λ (q : OpResult). OpGoesOn q v) (sy
 stops_goes v (Fails i) s r t g h = subst (λ (q : OpResult). OpGoesOn q v) (sym h.0) tt
 stops_goes v Never s r t g h = absurd h
 stops_goes v (Ordered ns next) s r t g h = stops_goes v (next h.0) s r t (g h.0) h.1.1
+stops_goes v (OneOf ns next) s r t g h = stops_goes v (next h.0) s r t (g h.0) h.1.1
 stops_goes v (Asks next) s r t g h = stops_goes v (next h.0) s r t (g h.0) h.1
 
 pub if_traps : (P : ℕ → Type 0) (b : Bool) (why : Trap) (p : Progress) → ShowsFor P p → ShowsFor P (trap_if b why p)

@@ -14,7 +14,7 @@ use Rattle.ops_guests.specs.OpResult.{Implements}
 use Rattle.ops_guests.specs.Stays.{StaysAfter}
 use Rattle.ops_guests.specs.declared.op_result.OpResult.{OpResult}
 use Rattle.machine_rules.specs.MainOps.{takes_words}
-use Rattle.machine_rules.specs.Progress.{Asks, Fails, Continues, Never, Ordered, Progress, Stops, Traps}
+use Rattle.machine_rules.specs.Progress.{Asks, Fails, Continues, Never, OneOf, Ordered, Progress, Stops, Traps}
 use Rattle.core_primitives.specs.StateView.{StateView}
 
 same_view : (s t : StateView) → t.core ≡ s.core → t.tags ≡ s.tags → t.current ≡ s.current → t ≡ s
@@ -31,6 +31,7 @@ same_stays (Traps why) s t r h tags current = subst (λ (q : OpResult). StaysAft
 same_stays (Fails i) s t r h tags current = subst (λ (q : OpResult). StaysAfter q s t) (sym h.0) (same_view s t h.1 tags current)
 same_stays Never s t r h tags current = absurd h
 same_stays (Ordered ns next) s t r h tags current = same_stays (next h.0) s t r h.1.1 tags current
+same_stays (OneOf ns next) s t r h tags current = same_stays (next h.0) s t r h.1.1 tags current
 same_stays (Asks next) s t r h tags current = same_stays (next h.0) s t r h.1 tags current
 
 pub ok_then : {X E : Type 0} (P Q : X → Type 0) (r : Result X E) → ((x : X) → P x → Q x) → IfOk r P → IfOk r Q

@@ -26,7 +26,7 @@ use Rattle.ops_guests.specs.declared.op_result.OpAnswer.TheVariants as op_answer
 use Rattle.machine_rules.specs.Calls.{next_thread}
 use Rattle.machine_rules.specs.Finish.{SomeHost}
 use Rattle.machine_rules.specs.OpParts.{calls_host}
-use Rattle.machine_rules.specs.Progress.{Asks, Continues, Ordered, Progress, Stops}
+use Rattle.machine_rules.specs.Progress.{Asks, Continues, Ordered, Progress, Stops, OneOf}
 use Rattle.machine_rules.specs.Step.{op_rule}
 
 -- the thread's place in its script, and its registers; None: no thread
@@ -37,6 +37,7 @@ in_script n s = option_map (λ t. (t.position, t.registers)) (get s.threads n)
 abbrev pub IsInPlace : ℕ → Option (ℕ × List ℕ) → Progress → Type 0
 IsInPlace n x (Continues l t m) = in_script n t ≡ x
 IsInPlace n x (Stops l t) = in_script n t ≡ x
+IsInPlace n x (OneOf ns next) = (m : ℕ) → IsInPlace n x (next m)
 IsInPlace n x (Ordered ns next) = (order : List ℕ) → IsInPlace n x (next order)
 IsInPlace n x (Asks next) = (answer : HostPoll) → IsInPlace n x (next answer)
 IsInPlace n x p = Unit {0}
@@ -141,6 +142,7 @@ pub record LeftAt (Still : Type 0) (n : ℕ) (s t : Core) : Type 0 where
 abbrev pub LeavesPlace : Type 0 → AnswerKind → ℕ → Core → Progress → Type 0
 LeavesPlace A k n s (Continues l t m) = LeftAt A n s t × (may_answer k (shown l) ≡ true)
 LeavesPlace A k n s (Stops l t) = LeftAt A n s t
+LeavesPlace A k n s (OneOf ns next) = (m : ℕ) → LeavesPlace A k n s (next m)
 LeavesPlace A k n s (Ordered ns next) = (order : List ℕ) → LeavesPlace A k n s (next order)
 LeavesPlace A k n s (Asks next) = (answer : HostPoll) → LeavesPlace A k n s (next answer)
 LeavesPlace A k n s p = Unit {0}

@@ -1,12 +1,14 @@
 -- An op whose rule leaves no choice picks what comes first.
 use Rattle.std.proofs.Common.{ap, subst, sym, ◌∙◌}
-use Rattle.std.specs.Prelude.{Bool, IfSome, IsPermutation, List, None, Option, Some, false, refl, true, ℕ, ◌≡◌}
+use Rattle.std.specs.Prelude.{Bool, IfSome, IsPermutation, List, None, Option, Some, false, not, refl, true, ℕ, ◌≡◌}
+use Rattle.std.specs.List.{list_any}
 use Rattle.machine_data.specs.Labels.{woken_of}
 use Rattle.machine_data.specs.Core.{Core}
 use Rattle.machine_data.specs.declared.label.Label.{Label}
-use Rattle.machine_rules.specs.Picks.{LeavesNoChoice, Preference, ReleasesNone, ShowsFirst, Silent, TakesFirst, WakesFirst, goes_in_order, in_order, taken_of}
+use Rattle.machine_rules.specs.Picks.{cancel_before, LeavesNoChoice, Preference, ReleasesNone, ShowsFirst, Silent, TakesFirst, WakesFirst, goes_in_order, in_order, taken_of}
 use Rattle.machine_data.specs.Read.{instance_of, is_waiter}
-use Rattle.machine_rules.specs.Progress.{Asks, Continues, Fails, Never, Ordered, Progress, Stops, Traps, may}
+use Rattle.machine_rules.specs.Step.{is_among}
+use Rattle.machine_rules.specs.Progress.{Asks, Continues, Fails, Never, OneOf, Ordered, Progress, Stops, Traps, may}
 use Rattle.ops_guests.specs.OpResult.{Implements, PicksFirst}
 use Rattle.ops_guests.specs.Shown.{goes_as}
 use Rattle.ops_guests.specs.Steps.{label_of}
@@ -28,6 +30,7 @@ loose_order p (Traps why) s r t none h = h
 loose_order p (Fails i) s r t none h = h
 loose_order p Never s r t none h = h
 loose_order p (Ordered ns next) s r t none h = absurd none
+loose_order p (OneOf ns next) s r t none h = absurd none
 loose_order p (Asks next) s r t none h = (h.0, loose_order p (next h.0) s r t (none h.0) h.1)
 
 calm_releases : (row : Progress) → LeavesNoChoice row → ReleasesNone row
@@ -37,6 +40,7 @@ calm_releases (Traps why) calm = tt
 calm_releases (Fails i) calm = tt
 calm_releases Never calm = tt
 calm_releases (Ordered ns next) calm = absurd calm
+calm_releases (OneOf ns next) calm = absurd calm
 calm_releases (Asks next) calm = λ answer. calm_releases (next answer) (calm answer)
 
 -- the label of what it resulted in
@@ -47,6 +51,7 @@ label_silent n (Traps why) s r t calm h = subst (λ (q : OpResult). Silent (labe
 label_silent n (Fails i) s r t calm h = subst (λ (q : OpResult). Silent (label_of n q)) (sym h.0) (refl, refl)
 label_silent n Never s r t calm h = absurd h
 label_silent n (Ordered ns next) s r t calm h = absurd calm
+label_silent n (OneOf ns next) s r t calm h = absurd calm
 label_silent n (Asks next) s r t calm h = label_silent n (next h.0) s r t (calm h.0) h.1
 
 -- a label that wakes the waiter that comes first, and shows no member
@@ -83,6 +88,18 @@ ordered_picks p row l held order new s x shows is moved goes core = record {
       (order, (moved, subst (λ (g : Bool). Implements (may g (Stops l (new order))) s (op_result.Stops l) x) (sym goes) (refl, core)));
 }
 
+allowed : (s : Core) (r : OpResult) (t : Core) (b : Bool) (q : Progress) → Implements (may b q) s r t → Implements q s r t
+allowed s r t true q is = is
+allowed s r t false q is = absurd is
+
+-- a rule that takes one of several threads, and stops
+pub taken_picks : (p : Preference) (row : Progress) (l : Label) (ns : List ℕ) (m : ℕ) (new : ℕ → Core) (s x : Core) → Silent l → row ≡ OneOf ns (λ k. Stops l (new k)) → is_among m ns ≡ true → list_any (λ n. cancel_before p n m) ns ≡ false → x ≡ new m → PicksFirst p row l s (op_result.Stops l) x
+taken_picks p row l ns m new s x silent is among first core = record {
+  shows = silent_shows p s l silent;
+  order = subst (λ (q : Progress). Implements (in_order p q) s (op_result.Stops l) x) (sym is)
+      (m, (among, subst (λ (b : Bool). Implements (may (not b) (Stops l (new m))) s (op_result.Stops l) x) (sym first) (refl, core)));
+}
+
 -- what is done in the order of the preference is done
 unordered : (p : Preference) (row : Progress) (s : Core) (r : OpResult) (t : Core) → Implements (in_order p row) s r t → Implements row s r t
 unordered p (Continues l new m) s r t h = h
@@ -90,11 +107,9 @@ unordered p (Stops l new) s r t h = h
 unordered p (Traps why) s r t h = h
 unordered p (Fails i) s r t h = h
 unordered p Never s r t h = h
-unordered p (Ordered ns next) s r t h = (h.0, (h.1.0, unordered p (next h.0) s r t (allowed (goes_in_order p h.0) (in_order p (next h.0)) h.1.1)))
-  where
-    allowed : (b : Bool) (q : Progress) → Implements (may b q) s r t → Implements q s r t
-    allowed true q is = is
-    allowed false q is = absurd is
+unordered p (Ordered ns next) s r t h = (h.0, (h.1.0, unordered p (next h.0) s r t (allowed s r t (goes_in_order p h.0) (in_order p (next h.0)) h.1.1)))
+unordered p (OneOf ns next) s r t h =
+    (h.0, (h.1.0, unordered p (next h.0) s r t (allowed s r t (not (list_any (λ n. cancel_before p n h.0) ns)) (in_order p (next h.0)) h.1.1)))
 unordered p (Asks next) s r t h = (h.0, unordered p (next h.0) s r t h.1)
 
 pub picks_implements : {p : Preference} {row : Progress} {l : Label} {s : Core} {r : OpResult} {t : Core} → PicksFirst p row l s r t → Implements row s r t

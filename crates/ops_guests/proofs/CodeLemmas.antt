@@ -9,7 +9,7 @@ use Rattle.task_wait.specs.declared.keys.ThreadKey.{ThreadKey}
 use Rattle.machine_data.specs.Core.{Core}
 use Rattle.machine_data.specs.Moves.{checked, ended, put_high, put_low}
 use Rattle.machine_data.specs.Read.{foot_of, instance_of, task_event_of, set_at, task_of}
-use Rattle.machine_data.specs.Write.{set_task_event, set_place}
+use Rattle.machine_data.specs.Write.{arrive, set_place, set_task_event}
 use Rattle.machine_data.specs.declared.label.Label.{Label}
 use Rattle.machine_data.specs.declared.records.Delivery.TheVariants as delivery
 use Rattle.machine_data.specs.declared.records.Place.TheVariants as place
@@ -108,9 +108,12 @@ module _ (n : TableId ThreadKey) where
   unfolding code_finds
   finds_core id s t x e o = ap (λ (v : StateView). v.core) e ∙ ap (λ (v : StateView). put_high (thread_of v n) (why.Delivery (delivery.Set (set_of v id))) v.core) o.1.1.1
 
-  pub waits_core : (id : TableId SetKey) (s t x : StateView) → x ≡ on_core (set_place (thread_of t n) (place.Waiting (set_of t id) true)) t → (o : Reopened n s t) → x.core ≡ code_waits (thread_of s n) (set_of s id) o.0 s.core
+  pub waits_core : (id : TableId SetKey) (s t a x : StateView) → a ≡ on_core (arrive (thread_of t n)) t → x ≡ on_core (set_place (thread_of a n) (place.Waiting (set_of a id) true)) a
+      → (o : Reopened n s t) → x.core ≡ code_waits (thread_of s n) (set_of s id) o.0 s.core
   unfolding code_waits
-  waits_core id s t x e o = ap (λ (v : StateView). v.core) e ∙ ap (λ (v : StateView). set_place (thread_of v n) (place.Waiting (set_of v id) true) v.core) o.1.1.1
+  waits_core id s t a x came e o =
+      ap (λ (v : StateView). v.core) e ∙ (ap (λ (v : StateView). set_place (thread_of v n) (place.Waiting (set_of v id) true) v.core) came
+      ∙ ap (λ (v : StateView). set_place (thread_of v n) (place.Waiting (set_of v id) true) (arrive (thread_of v n) v.core)) o.1.1.1)
 
 below_bound : (code : ℕ) → code ≤ 4294967295 → nat_lt 4294967295 code ≡ false
 below_bound code small = grind (arith, nat_tests)

@@ -1,15 +1,17 @@
 -- Deliveries that are taken.
-use Rattle.std.proofs.Common.{T, ap, ap₂, refl, subst, sym, ◌∙◌}
+use Rattle.std.proofs.Common.{T, ap, ap₂, arith, refl, subst, sym, ◌∙◌}
+use Rattle.std.proofs.lemmas.Bool.Decides.{nat_tests}
 use Rattle.std.specs.Option.{option_map_or}
 use Rattle.std.specs.Prelude.{Bool, None, Option, Some, false, true, unwrap_or, ℕ, ◌≡◌}
 use Rattle.task_table.specs.declared.id.TableId.{TableId}
 use Rattle.task_wait.specs.declared.keys.ThreadKey.{ThreadKey}
+use Rattle.machine_data.proofs.CommuteLemmas.{get-change}
 use Rattle.machine_data.specs.Core.{Core}
 use Rattle.machine_data.specs.Labels.{Choice, choice_of, event_label}
 use Rattle.machine_data.specs.Moves as moves
 use Rattle.machine_data.specs.Moves.{handed_on, may_hand_on, ready_why, stopped, why_of}
 use Rattle.machine_data.specs.Read.{foot_of, task_of}
-use Rattle.machine_data.specs.Write.{set_place}
+use Rattle.machine_data.specs.Write.{arrive, on_thread, set_place}
 use Rattle.machine_data.specs.declared.records.Delivery.TheVariants as delivery
 use Rattle.machine_data.specs.declared.records.Place.{Place}
 use Rattle.machine_data.specs.declared.records.Place.TheVariants as place
@@ -35,13 +37,24 @@ use Rattle.ops_guests.specs.declared.op_result.OpResult.{OpResult}
 why_kept : (n f : ℕ) (w : Why) (s : Core) → IsTaken n w s → why_of n (stopped f s) ≡ why_of n s
 why_kept n f w s taken = ap (λ (o : Option Place). option_map_or ready_why o why.Resumption) ((stopped_stand n (place.Ready taken.0 w) f s taken.1).here ∙ sym taken.1.here)
 
-pub held_is : (n f : TableId ThreadKey) (w : Why) (s t u : StateView) → IsTaken (thread_of s n) w s.core → thread_of s f ≡ foot_of (thread_of s n) s.core → t ≡ on_core (stopped (thread_of s f)) s → u ≡ on_core (λ c. set_place (thread_of t n) (place.Held (why_of (thread_of t n) c)) c) t → u ≡ on_core (take_holds (thread_of s n) (why_of (thread_of s n) s.core)) s
+arrived_why : (n m : ℕ) (s : Core) → why_of n (arrive m s) ≡ why_of n s
+unfolding arrive on_thread
+arrived_why n m s = grind (arith, nat_tests, get-change)
+
+abbrev held_at : TableId ThreadKey → StateView → StateView
+held_at n y = on_core (λ c. set_place (thread_of y n) (place.Held (why_of (thread_of y n) c)) c) y
+
+pub held_is : (n f : TableId ThreadKey) (w : Why) (s t a u : StateView) → IsTaken (thread_of s n) w s.core → thread_of s f ≡ foot_of (thread_of s n) s.core
+    → t ≡ on_core (stopped (thread_of s f)) s → a ≡ on_core (arrive (thread_of t n)) t
+    → u ≡ on_core (λ c. set_place (thread_of a n) (place.Held (why_of (thread_of a n) c)) c) a → u ≡ on_core (take_holds (thread_of s n) (why_of (thread_of s n) s.core)) s
 unfolding take_holds
-held_is n f w s t u taken foot e d =
+held_is n f w s t a u taken foot e came d =
     let N = thread_of s n in
-    d ∙ (ap (λ (y : StateView). on_core (λ c. set_place (thread_of y n) (place.Held (why_of (thread_of y n) c)) c) y) e
-    ∙ (ap (λ (v : Why). with_core (set_place N (place.Held v) (stopped (thread_of s f) s.core)) s) (why_kept N (thread_of s f) w s.core taken)
-    ∙ ap (λ (g : ℕ). with_core (set_place N (place.Held (why_of N s.core)) (stopped g s.core)) s) foot))
+    let c = stopped (thread_of s f) s.core in
+    d ∙ (ap (held_at n) came
+    ∙ (ap (λ (y : StateView). held_at n (on_core (arrive (thread_of y n)) y)) e
+    ∙ (ap (λ (v : Why). with_core (set_place N (place.Held v) (arrive N c)) s) (arrived_why N N c ∙ why_kept N (thread_of s f) w s.core taken)
+    ∙ ap (λ (g : ℕ). with_core (set_place N (place.Held (why_of N s.core)) (arrive N (stopped g s.core))) s) foot)))
 
 pub own_implements : (n : TableId ThreadKey) (m : Mark) (k j : ℕ) (r : OpResult) (g : PickedEvent) (v : Given) (s t : StateView) → k ≡ task_of (thread_of s n) s.core → j ≡ thread_of s n → picked_event_in s.tags g ≡ moves.picked_task_event_only k s.core → handle_in g ≡ None → v ≡ moves.given_for (picked_event_in s.tags g) (unwrap_or (handle_in g) 0) s.core → r ≡ goes_as (event_label m j v None) j → t ≡ on_core (activated (thread_of s n) (picked_event_in s.tags g) v) s → Implements (own_delivered m (thread_of s n) s.core (moves.picked_task_event_only (task_of (thread_of s n) s.core) s.core)) s.core r t.core
 own_implements n m k j r g v s t task number own none is shown e =

@@ -15,7 +15,7 @@ use Rattle.ops_guests.specs.Steps.{label_of}
 use Rattle.ops_guests.specs.declared.op_result.OpResult.{OpResult}
 use Rattle.ops_guests.specs.declared.op_result.OpResult.TheVariants as op_result
 use Rattle.machine_rules.specs.Finish.{Doer, SomeHost}
-use Rattle.machine_rules.specs.Progress.{Asks, Fails, Continues, Never, Ordered, Progress, Stops, Traps}
+use Rattle.machine_rules.specs.Progress.{Asks, Fails, Continues, Never, OneOf, Ordered, Progress, Stops, Traps}
 use Rattle.task_table.specs.declared.id.TableId.{TableId}
 use Rattle.task_wait.specs.declared.keys.ThreadKey.{ThreadKey}
 use Rattle.core_primitives.specs.StateView.{StateView, Tags, thread_of, with_core, work_number}
@@ -29,6 +29,7 @@ trapped_same (Traps other) s t why h = h.1
 trapped_same (Fails i) s t why h = absurd (let e = h.0 in cc)
 trapped_same Never s t why h = absurd h
 trapped_same (Ordered ns next) s t why h = trapped_same (next h.0) s t why h.1.1
+trapped_same (OneOf ns next) s t why h = trapped_same (next h.0) s t why h.1.1
 trapped_same (Asks next) s t why h = trapped_same (next h.0) s t why h.1
 
 failed_same : (p : Progress) (s t : Core) (i : ℕ) → Implements p s (op_result.Fails i) t → t ≡ s
@@ -38,6 +39,7 @@ failed_same (Traps other) s t i h = absurd (let e = h.0 in cc)
 failed_same (Fails j) s t i h = h.1
 failed_same Never s t i h = absurd h
 failed_same (Ordered ns next) s t i h = failed_same (next h.0) s t i h.1.1
+failed_same (OneOf ns next) s t i h = failed_same (next h.0) s t i h.1.1
 failed_same (Asks next) s t i h = failed_same (next h.0) s t i h.1
 
 same_view : (s t : StateView) → t.core ≡ s.core → t.tags ≡ s.tags → t.current ≡ s.current → t ≡ s

@@ -15,7 +15,7 @@ use Rattle.ops_guests.specs.declared.op_result.OpAnswer.TheVariants as op_answer
 use Rattle.machine_rules.specs.Data.{advanced, assigned, moved_to}
 use Rattle.machine_rules.specs.Finish as finishes
 use Rattle.machine_rules.specs.Finish.{Doer, NoAnswer, OneEvent, OneNumber, OwnScript, SomeHost, finish, set_given}
-use Rattle.machine_rules.specs.Progress.{Asks, Fails, Continues, Never, Ordered, Progress, Stops, Traps}
+use Rattle.machine_rules.specs.Progress.{Asks, Fails, Continues, Never, OneOf, Ordered, Progress, Stops, Traps}
 
 -- the core is this one, but for its threads
 abbrev pub OfThreads : Core → Core → Type 0
@@ -51,6 +51,7 @@ ended_works d n r s = ap (λ (c : Core). c.works) (ended_threads d n r s)
 abbrev pub IsUnanswered : Progress → Type 0
 IsUnanswered (Continues l new m) = shown l ≡ op_answer.NoneDue
 IsUnanswered (Ordered ns next) = (order : List ℕ) → IsUnanswered (next order)
+IsUnanswered (OneOf ns next) = (m : ℕ) → IsUnanswered (next m)
 IsUnanswered (Asks next) = (answer : HostPoll) → IsUnanswered (next answer)
 IsUnanswered _ = Unit {0}
 
@@ -64,6 +65,7 @@ unended (Traps why) s r t none h d n u = ap (λ (x : OpResult). ended d n x u) h
 unended (Fails i) s r t none h d n u = ap (λ (x : OpResult). ended d n x u) h.0
 unended Never s r t none h d n u = absurd h
 unended (Ordered ns next) s r t none h d n u = unended (next h.0) s r t (none h.0) h.1.1 d n u
+unended (OneOf ns next) s r t none h d n u = unended (next h.0) s r t (none h.0) h.1.1 d n u
 unended (Asks next) s r t none h d n u = unended (next h.0) s r t (none h.0) h.1 d n u
 
 -- what implements such a rule implements it once the op is ended too
@@ -78,4 +80,5 @@ undue (Traps why) s r t none h = ap ends_op h.0
 undue (Fails i) s r t none h = ap ends_op h.0
 undue Never s r t none h = absurd h
 undue (Ordered ns next) s r t none h = undue (next h.0) s r t (none h.0) h.1.1
+undue (OneOf ns next) s r t none h = undue (next h.0) s r t (none h.0) h.1.1
 undue (Asks next) s r t none h = undue (next h.0) s r t (none h.0) h.1

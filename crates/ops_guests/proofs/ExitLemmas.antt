@@ -83,7 +83,7 @@ module _ (n : TableId ThreadKey) where
       )
 
 pub reopened_in_order : (i : ℕ) (s t u : StateView) → t ≡ on_core (set_do_not_enter i false) s → ReleasesHeld i t u → InOrder i (end_reopens i) s u
-unfolding end_reopens held_by_flag
+unfolding end_reopens held_by_flag set_do_not_enter on_instance
 reopened_in_order i s t u e o = (
   o.0,
   (

@@ -18,7 +18,7 @@ use Rattle.machine_data.specs.Read.{instance_of, is_ready_member, is_waiter, sub
 use Rattle.machine_data.specs.declared.records.Named.{Named}
 use Rattle.machine_data.specs.declared.records.Subtask.TheVariants as subtask
 use Rattle.machine_data.specs.declared.records.Subtask.{Subtask}
-use Rattle.machine_rules.specs.Progress.{Asks, Fails, Continues, Never, Ordered, Progress, Stops, Traps}
+use Rattle.machine_rules.specs.Progress.{Asks, Fails, Continues, Never, OneOf, Ordered, Progress, Stops, Traps}
 use Rattle.machine_rules.specs.Step.{MainProgresses, MainStep, Progresses, ScriptStep, Step, TakeStep, TurnStep, did, entry_number}
 use Rattle.machine_rules.specs.Takes.{popped, take_rule}
 use Rattle.machine_rules.specs.Turns.{goes_to}
@@ -39,6 +39,7 @@ implements_progresses s base n (Traps why) r t h = came_as s base n (Traps why) 
 implements_progresses s base n (Fails i) r t h = came_as s base n (Fails i) r _ t _ h.0 h.1 (refl, refl)
 implements_progresses s base n Never r t h = absurd h
 implements_progresses s base n (Ordered ns next) r t h = (h.0, (h.1.0, implements_progresses s base n (next h.0) r t h.1.1))
+implements_progresses s base n (OneOf ns next) r t h = (h.0, (h.1.0, implements_progresses s base n (next h.0) r t h.1.1))
 implements_progresses s base n (Asks next) r t h = (h.0, implements_progresses s base n (next h.0) r t h.1)
 
 pub implementing_is_step : ImplementingIsStep

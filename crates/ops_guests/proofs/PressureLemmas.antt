@@ -127,7 +127,7 @@ opening_goes p d n m order s one held goes is =
     )
 
 pub opening_picks : (n : TableId ThreadKey) (f : Doer) (i c k m : ℕ) (s t u : StateView) → i ≡ instance_of (thread_of s n) s.core → c ≡ backpressure_of i s.core → c ≡ 1 → k ≡ 0 → m ≡ thread_of s n → t ≡ on_core (set_backpressure i k) s → ReleasesHeld i t u → PicksFirst (preference s) (dec_rule f (thread_of s n) s.core) (label.Task (task_label.BpDec m)) s.core (goes_as (label.Task (task_label.BpDec m)) m) (finish f (thread_of s n) NoAnswer u.core)
-unfolding pressure_gone held_by_counter
+unfolding pressure_gone held_by_counter set_backpressure on_instance
 opening_picks n f i c k m s t u at count one none is e o =
     let N = thread_of s n in
     let held = ap (λ (w : StateView). admitted_held i w.core) e ∙ ap₂ (λ (j b : ℕ). admitted_held j (set_backpressure j b s.core)) at none in

@@ -14,6 +14,7 @@ use Rattle.machine_data.specs.Write.{on_thread, push_high, set_place}
 use Rattle.machine_data.specs.declared.records.Delivery.TheVariants as delivery
 use Rattle.machine_data.specs.declared.records.OpProgress.TheVariants as op_progress
 use Rattle.machine_data.specs.declared.records.Place.TheVariants as place
+use Rattle.machine_data.specs.declared.records.Subtask.{Subtask}
 use Rattle.machine_data.specs.declared.records.Thread.{Thread}
 use Rattle.machine_data.specs.declared.records.Why.{Why}
 use Rattle.machine_data.specs.declared.records.Why.TheVariants as why
@@ -71,7 +72,7 @@ module _ (n : TableId ThreadKey) (x : ℕ) (g : moves.PickedEvent) (w : Option �
 
 -- ---- The rule where another waiter is woken
 
-goes_on_is : (n x : ℕ) (r : Doer) (h w : ℕ) (tags : Tags) (g : PickedEvent) (v : Given) (s : Core) → moves.picked_event false (task_of n s) x (member_in tags g) s ≡ Some (picked_event_in tags g) → v ≡ moves.given_for (picked_event_in tags g) (unwrap_or (handle_in g) 0) s → may_hand_on x (picked_event_in tags g) (Some w) s ≡ true → wait_rule r n h (choice_of (wait_label n v (Some w))) s (op_progress.Waits x) ≡ Continues (wait_label n v (Some w)) (received_woken_by r n x (Some w) (picked_event_in tags g) v s) n
+goes_on_is : (n x : ℕ) (r : Doer) (h w : ℕ) (tags : Tags) (g : PickedEvent) (v : Given) (s : Core) → moves.picked_event (moves.waits_cancellable (task_of n s) s) (task_of n s) x (member_in tags g) s ≡ Some (picked_event_in tags g) → v ≡ moves.given_for (picked_event_in tags g) (unwrap_or (handle_in g) 0) s → may_hand_on x (picked_event_in tags g) (Some w) s ≡ true → wait_rule r n h (choice_of (wait_label n v (Some w))) s (op_progress.Waits x) ≡ Continues (wait_label n v (Some w)) (received_woken_by r n x (Some w) (picked_event_in tags g) v s) n
 unfolding may_hand_on
 goes_on_is n x r h w tags (picked_events.Own e) v s given is hands =
     ap (λ o. or_never o (wait_goes_on_by r n x (choice_of (wait_label n v (Some w))) s)) given
@@ -88,10 +89,15 @@ own_shown x w tags (picked_events.Own own.Cancelled) v s is hands = ap (λ (y : 
 own_shown x w tags (picked_events.Member sub k) v s is hands = absurd (subst T (sym hands) tt)
 own_shown x w tags picked_events.Nothing v s is hands = absurd (subst T (sym hands) tt)
 
-pub goes_on_implements : (n : TableId ThreadKey) (x : ℕ) (r : Doer) (k : TableId GuestTaskKey) (m w o : ℕ) (op_result : OpResult) (g : PickedEvent) (v : Given) (s t u : StateView) → op_result ≡ goes_as (wait_label m v (Some o)) m → call_of s k ≡ task_of (thread_of s n) s.core → m ≡ thread_of s n → o ≡ w → moves.picked_event false (call_of s k) x (member_in s.tags g) s.core ≡ Some (picked_event_in s.tags g) → v ≡ moves.given_for (picked_event_in s.tags g) (unwrap_or (handle_in g) 0) s.core → may_hand_on x (picked_event_in s.tags g) (Some w) s.core ≡ true → t ≡ on_core (handed_on x (picked_event_in s.tags g) (Some w)) s → u ≡ on_core (moves.taken (picked_event_in t.tags g) (call_of t k)) t → (h : ℕ) → Implements (wait_rule r (thread_of s n) h (choice_of (label_of (thread_of s n) op_result)) s.core (op_progress.Waits x)) s.core op_result (ended r (thread_of s n) op_result u.core)
-goes_on_implements n x r k m w o op_result g v s t u shown task number woken given is hands e d h =
+-- what is picked for the call is picked for the thread's task
+its_picked : (x k n : ℕ) (m : Option Subtask) (b : Bool) (s : Core) (o : Option moves.PickedEvent) → k ≡ task_of n s → b ≡ moves.waits_cancellable k s → moves.picked_event b k x m s ≡ o → moves.picked_event (moves.waits_cancellable (task_of n s) s) (task_of n s) x m s ≡ o
+its_picked x k n m b s o task may given =
+    ap (λ (j : ℕ). moves.picked_event (moves.waits_cancellable j s) j x m s) (sym task) ∙ (ap (λ (c : Bool). moves.picked_event c k x m s) (sym may) ∙ given)
+
+pub goes_on_implements : (n : TableId ThreadKey) (x : ℕ) (r : Doer) (b : Bool) (k : TableId GuestTaskKey) (m w o : ℕ) (op_result : OpResult) (g : PickedEvent) (v : Given) (s t u : StateView) → op_result ≡ goes_as (wait_label m v (Some o)) m → call_of s k ≡ task_of (thread_of s n) s.core → m ≡ thread_of s n → o ≡ w → b ≡ moves.waits_cancellable (call_of s k) s.core → moves.picked_event b (call_of s k) x (member_in s.tags g) s.core ≡ Some (picked_event_in s.tags g) → v ≡ moves.given_for (picked_event_in s.tags g) (unwrap_or (handle_in g) 0) s.core → may_hand_on x (picked_event_in s.tags g) (Some w) s.core ≡ true → t ≡ on_core (handed_on x (picked_event_in s.tags g) (Some w)) s → u ≡ on_core (moves.taken (picked_event_in t.tags g) (call_of t k)) t → (h : ℕ) → Implements (wait_rule r (thread_of s n) h (choice_of (label_of (thread_of s n) op_result)) s.core (op_progress.Waits x)) s.core op_result (ended r (thread_of s n) op_result u.core)
+goes_on_implements n x r b k m w o op_result g v s t u shown task number woken may given is hands e d h =
     let N = thread_of s n in
-    let row = goes_on_is N x r h w s.tags g v s.core (ap (λ (j : ℕ). moves.picked_event false j x (member_in s.tags g) s.core) (sym task) ∙ given) is hands in
+    let row = goes_on_is N x r h w s.tags g v s.core (its_picked x (call_of s k) N (member_in s.tags g) b s.core (Some (picked_event_in s.tags g)) task may given) is hands in
     let handed = handed_on x (picked_event_in s.tags g) (Some w) s.core in
     let its = task ∙ sym (task_handed N x (picked_event_in s.tags g) (Some w) s.core) in
     let taken = ap (λ (y : StateView). y.core) d ∙ (ap (λ (y : StateView). moves.taken (picked_event_in y.tags g) (call_of y k) y.core) e ∙ ap (λ (j : ℕ). moves.taken (picked_event_in s.tags g) j handed) its) in
@@ -113,16 +119,16 @@ takes_picked_event n x r tags (picked_events.Own e) v s some member is hands = a
 takes_picked_event n x r tags (picked_events.Member sub k) v s some member is hands = answered_is n x r (picked_event_in tags (picked_events.Member sub k)) v (Some k) s member is hands
 takes_picked_event n x r tags picked_events.Nothing v s some member is hands = absurd (some refl)
 
-takes_is : (n x : ℕ) (r : Doer) (h : ℕ) (tags : Tags) (g : PickedEvent) (v : Given) (s : Core) → (g ≡ picked_events.Nothing → ⊥) → IsNamedIn (instance_of n s) tags g s → moves.picked_event false (task_of n s) x (member_in tags g) s ≡ Some (picked_event_in tags g) → handle_given v ≡ handle_in g → v ≡ moves.given_for (picked_event_in tags g) (unwrap_or (handle_in g) 0) s → may_hand_on x (picked_event_in tags g) None s ≡ true → wait_rule r n h (choice_of (wait_label n v None)) s (op_progress.Waits x) ≡ Continues (wait_label n v None) (received_woken_by r n x None (picked_event_in tags g) v s) n
+takes_is : (n x : ℕ) (r : Doer) (h : ℕ) (tags : Tags) (g : PickedEvent) (v : Given) (s : Core) → (g ≡ picked_events.Nothing → ⊥) → IsNamedIn (instance_of n s) tags g s → moves.picked_event (moves.waits_cancellable (task_of n s) s) (task_of n s) x (member_in tags g) s ≡ Some (picked_event_in tags g) → handle_given v ≡ handle_in g → v ≡ moves.given_for (picked_event_in tags g) (unwrap_or (handle_in g) 0) s → may_hand_on x (picked_event_in tags g) None s ≡ true → wait_rule r n h (choice_of (wait_label n v None)) s (op_progress.Waits x) ≡ Continues (wait_label n v None) (received_woken_by r n x None (picked_event_in tags g) v s) n
 takes_is n x r h tags g v s some named given member is hands =
-    ap (λ o. or_never (moves.picked_event false (task_of n s) x o s) (wait_goes_on_by r n x (choice_of (wait_label n v None)) s)) (chosen_is n tags g (choice_of (wait_label n v None)) s named member)
+    ap (λ o. or_never (moves.picked_event (moves.waits_cancellable (task_of n s) s) (task_of n s) x o s) (wait_goes_on_by r n x (choice_of (wait_label n v None)) s)) (chosen_is n tags g (choice_of (wait_label n v None)) s named member)
     ∙ (ap (λ o. or_never o (wait_goes_on_by r n x (choice_of (wait_label n v None)) s)) given
     ∙ takes_picked_event n x r tags g v s some member is hands)
 
-pub takes_implements : (n : TableId ThreadKey) (x : ℕ) (r : Doer) (k : TableId GuestTaskKey) (i m : ℕ) (op_result : OpResult) (g : PickedEvent) (v : Given) (s t u : StateView) → (g ≡ picked_events.Nothing → ⊥) → op_result ≡ goes_as (wait_label m v None) m → i ≡ instance_of (thread_of s n) s.core → IsNamedIn i s.tags g s.core → handle_given v ≡ handle_in g → call_of s k ≡ task_of (thread_of s n) s.core → m ≡ thread_of s n → moves.picked_event false (call_of s k) x (member_in s.tags g) s.core ≡ Some (picked_event_in s.tags g) → v ≡ moves.given_for (picked_event_in s.tags g) (unwrap_or (handle_in g) 0) s.core → may_hand_on x (picked_event_in s.tags g) None s.core ≡ true → t ≡ on_core (handed_on x (picked_event_in s.tags g) None) s → u ≡ on_core (moves.taken (picked_event_in t.tags g) (call_of t k)) t → (h : ℕ) → Implements (wait_rule r (thread_of s n) h (choice_of (label_of (thread_of s n) op_result)) s.core (op_progress.Waits x)) s.core op_result (ended r (thread_of s n) op_result u.core)
-takes_implements n x r k i m op_result g v s t u some shown at named member task number given is hands e d h =
+pub takes_implements : (n : TableId ThreadKey) (x : ℕ) (r : Doer) (b : Bool) (k : TableId GuestTaskKey) (i m : ℕ) (op_result : OpResult) (g : PickedEvent) (v : Given) (s t u : StateView) → (g ≡ picked_events.Nothing → ⊥) → op_result ≡ goes_as (wait_label m v None) m → i ≡ instance_of (thread_of s n) s.core → IsNamedIn i s.tags g s.core → handle_given v ≡ handle_in g → call_of s k ≡ task_of (thread_of s n) s.core → m ≡ thread_of s n → b ≡ moves.waits_cancellable (call_of s k) s.core → moves.picked_event b (call_of s k) x (member_in s.tags g) s.core ≡ Some (picked_event_in s.tags g) → v ≡ moves.given_for (picked_event_in s.tags g) (unwrap_or (handle_in g) 0) s.core → may_hand_on x (picked_event_in s.tags g) None s.core ≡ true → t ≡ on_core (handed_on x (picked_event_in s.tags g) None) s → u ≡ on_core (moves.taken (picked_event_in t.tags g) (call_of t k)) t → (h : ℕ) → Implements (wait_rule r (thread_of s n) h (choice_of (label_of (thread_of s n) op_result)) s.core (op_progress.Waits x)) s.core op_result (ended r (thread_of s n) op_result u.core)
+takes_implements n x r b k i m op_result g v s t u some shown at named member task number may given is hands e d h =
     let N = thread_of s n in
-    let row = takes_is N x r h s.tags g v s.core some (subst (λ (j : ℕ). IsNamedIn j s.tags g s.core) at named) (ap (λ (j : ℕ). moves.picked_event false j x (member_in s.tags g) s.core) (sym task) ∙ given) member is hands in
+    let row = takes_is N x r h s.tags g v s.core some (subst (λ (j : ℕ). IsNamedIn j s.tags g s.core) at named) (its_picked x (call_of s k) N (member_in s.tags g) b s.core (Some (picked_event_in s.tags g)) task may given) member is hands in
     let handed = handed_on x (picked_event_in s.tags g) None s.core in
     let its = task ∙ sym (task_handed N x (picked_event_in s.tags g) None s.core) in
     let taken = ap (λ (y : StateView). y.core) d ∙ (ap (λ (y : StateView). moves.taken (picked_event_in y.tags g) (call_of y k) y.core) e ∙ ap (λ (j : ℕ). moves.taken (picked_event_in s.tags g) j handed) its) in

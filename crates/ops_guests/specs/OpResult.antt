@@ -1,10 +1,11 @@
 -- What an op resulted in, against its rule.
-use Rattle.std.specs.Prelude.{IsPermutation, List, Some, ℕ, ◌≡◌}
+use Rattle.std.specs.Prelude.{IsPermutation, List, Some, true, ℕ, ◌≡◌}
 use Rattle.machine_data.specs.Core.{Core}
 use Rattle.machine_data.specs.declared.statuses.HostPoll.{HostPoll}
 use Rattle.machine_data.specs.declared.label.Label.{Label}
 use Rattle.machine_rules.specs.Picks.{Preference, ShowsFirst, in_order}
-use Rattle.machine_rules.specs.Progress.{Asks, Fails, Continues, Never, Ordered, Progress, Stops, Traps}
+use Rattle.machine_rules.specs.Step.{is_among}
+use Rattle.machine_rules.specs.Progress.{Asks, Fails, Continues, Never, OneOf, Ordered, Progress, Stops, Traps}
 use Rattle.task_table.specs.declared.id.TableId.{TableId}
 use Rattle.task_wait.specs.declared.keys.ThreadKey.{ThreadKey}
 use Rattle.core_primitives.specs.StateView.{StateView, thread_of}
@@ -20,6 +21,7 @@ Implements (Traps why) s r t = (r ≡ op_result.Traps why) × (t ≡ s)
 Implements (Fails i) s r t = (r ≡ op_result.Fails i) × (t ≡ s)
 Implements Never s r t = ⊥
 Implements (Ordered ns next) s r t = (order : List ℕ) × (IsPermutation ns order × Implements (next order) s r t)
+Implements (OneOf ns next) s r t = (m : ℕ) × ((is_among m ns ≡ true) × Implements (next m) s r t)
 Implements (Asks next) s r t = (answer : HostPoll) × Implements (next answer) s r t
 
 -- The op that began in s picked what comes first: its label shows it, and it released threads in that order.

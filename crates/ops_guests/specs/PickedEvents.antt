@@ -48,6 +48,6 @@ abbrev pub AllMembersNamed : ℕ → Core → Type 0
 AllMembersNamed i s = (h x : ℕ) → set_at i h s ≡ Some x → MembersNamed i x s
 
 -- This is what the task is given first, with its member.
-abbrev pub IsPickedFor : (by_callback : Bool) → TableId GuestTaskKey → TableId SetKey → PickedEvent → StateView → Type 0
-IsPickedFor by_callback call set picked s =
-    picked_event by_callback (call_of s call) (set_of s set) (member_in s.tags picked) s.core ≡ Some (picked_event_in s.tags picked)
+abbrev pub IsPickedFor : (cancellable : Bool) → TableId GuestTaskKey → TableId SetKey → PickedEvent → StateView → Type 0
+IsPickedFor cancellable call set picked s =
+    picked_event cancellable (call_of s call) (set_of s set) (member_in s.tags picked) s.core ≡ Some (picked_event_in s.tags picked)

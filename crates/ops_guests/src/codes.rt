@@ -92,6 +92,7 @@ fn code_waits<W: Primitives>(w: &mut W, thread: ThreadId, label: Label, handle: 
         put_high(w, thread, WhyId::Delivery(DeliveryId::Set(set)));
     } else {
         let by_callback = true;
+        w.arrive(thread);
         w.set_place(thread, PlaceId::Waiting { set, by_callback });
     }
     OpResult::Stops(label)

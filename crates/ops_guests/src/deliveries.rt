@@ -95,6 +95,7 @@ pub fn hold_delivery<W: Primitives>(w: &mut W, mark: Mark, thread: ThreadId) -> 
     let number = w.number(thread);
     let foot = foot_of(w, thread);
     stop(w, foot);
+    w.arrive(thread);
     w.hold(thread);
     OpResult::Stops(Label::Take(TakeLabel::Held(mark, number)))
 }
@@ -109,6 +110,7 @@ fn wait_again<W: Primitives>(w: &mut W, thread: ThreadId, set: SetId)
     let foot = foot_of(w, thread);
     stop(w, foot);
     let by_callback = true;
+    w.arrive(thread);
     w.set_place(thread, PlaceId::Waiting { set, by_callback });
 }
 

@@ -16,17 +16,17 @@ pub enum PickedEvent {
     Nothing,
 }
 
-// The task event, Cancelled only by callback.
+// The task event, Cancelled only for what may take it.
 pub(crate) fn picked_task_event<W: Primitives>(
     w: &W,
-    by_callback: bool,
+    cancellable: bool,
     call: CallId,
 ) -> Option<TaskEvent>
-    ensures { result ≡ picked_task_event_of by_callback (call_of (W.view w.now) call) (W.view w.now).core }
+    ensures { result ≡ picked_task_event_of cancellable (call_of (W.view w.now) call) (W.view w.now).core }
 {
     match w.task_event(call) {
         Some(TaskEvent::None) => Some(TaskEvent::None),
-        Some(TaskEvent::Cancelled) if by_callback => Some(TaskEvent::Cancelled),
+        Some(TaskEvent::Cancelled) if cancellable => Some(TaskEvent::Cancelled),
         _ => None,
     }
 }
@@ -36,20 +36,20 @@ pub(crate) fn picked_task_event<W: Primitives>(
 #[inline(always)]
 pub(crate) fn picked_event_for<W: Primitives>(
     w: &W,
-    by_callback: bool,
+    cancellable: bool,
     call: CallId,
     set: SetId,
     instance: u32,
 ) -> PickedEvent
     requires live { 0 < set_of (W.view w.now) set }
     requires named { MembersNamed instance (set_of (W.view w.now) set) (W.view w.now).core }
-    ensures is { IsPickedFor by_callback call set result (W.view w.now) }
+    ensures is { IsPickedFor cancellable call set result (W.view w.now) }
     ensures named { IsNamedIn instance (W.view w.now).tags result (W.view w.now).core }
     ensures first { IsFirstPicked instance (W.view w.now) result }
 {
     // only the contract speaks of `instance`
     let _instance = instance;
-    if let Some(event) = picked_task_event(w, by_callback, call) {
+    if let Some(event) = picked_task_event(w, cancellable, call) {
         return PickedEvent::Own(event);
     }
     match w.first_ready(set) {

@@ -152,6 +152,7 @@ fn hold_start<W: Primitives>(
     tell_starting(w, call, waiter, told);
     let foot = own_foot(w, thread);
     stop(w, foot);
+    w.arrive(thread);
     w.set_place(thread, PlaceId::Held(WhyId::Start));
 }
 

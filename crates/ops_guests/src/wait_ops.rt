@@ -2,7 +2,7 @@
 ghost use Rattle.ops_moves.specs.Wakes.{MayHandOn, handed_to};
 ghost use Rattle.std.specs.Prelude.{◌≡◌, ◌<◌, IfSome};
 ghost use Rattle.machine_data.specs.Labels.{given_task_event, wait_label};
-ghost use Rattle.machine_data.specs.Moves.{handed_on, may_hand_on};
+ghost use Rattle.machine_data.specs.Moves.{handed_on, may_hand_on, waits_cancellable};
 ghost use Rattle.machine_data.specs.Read.{instance_of};
 ghost use Rattle.machine_data.specs.declared.records.OpProgress.TheVariants as op_progresses;
 ghost use Rattle.ops_guests.specs.Does.{DoesRule, SameNames};
@@ -13,13 +13,13 @@ ghost use Rattle.ops_guests.specs.Shown.{goes_as};
 ghost use Rattle.machine_rules.specs.Sets.{finds_nothing, wait_stops};
 ghost use Rattle.core_primitives.specs.Changes.{IsFirstToWake};
 ghost use Rattle.core_primitives.specs.Apart.{AreWaitersUnqueued};
-ghost use Rattle.core_primitives.specs.StateView.{on_core, set_of, thread_of};
+ghost use Rattle.core_primitives.specs.StateView.{call_of, on_core, set_of, thread_of};
 
 use crate::names::set_named;
 use crate::op_result::{OpAnswer, OpResult};
 use crate::picked_events::{PickedEvent, given, picked_event_for, picked_task_event, take};
-use core_primitives::{OpProgressId, PlaceId, Primitives, SetId, ThreadId};
-use machine_data::{Given, Label, SetLabel, TaskEvent, ThreadLabel, Trap};
+use core_primitives::{CallId, OpProgressId, PlaceId, Primitives, SetId, ThreadId};
+use machine_data::{ExportKind, Given, Label, SetLabel, TaskEvent, ThreadLabel, Trap, Version};
 use ops_moves::{check, foot_of, hand_wake_on, passes_check, stop};
 
 // A thread that takes the task event while a member is ready wakes another waiter.
@@ -42,13 +42,26 @@ pub(crate) fn hand_on<W: Primitives>(
     }
 }
 
+// Whether a `wait` of the task may take Cancelled: in version 2 that of an async-lifted one.
+#[inline(always)]
+fn waits_cancellable<W: Primitives>(w: &W, call: CallId) -> bool
+    ensures { result ≡ waits_cancellable (call_of (W.view w.now) call) (W.view w.now).core }
+{
+    match w.version() {
+        Version::One => false,
+        Version::Two => matches!(w.kind(call), ExportKind::Stackful | ExportKind::Callback),
+    }
+}
+
 // Neither the task event, as far as the thread may take it, nor a ready member is there.
 #[tactic(auto, unfolding(machine_rules::specs::Sets::finds_nothing))]
 fn finds_nothing<W: Primitives>(w: &W, thread: ThreadId, set: SetId) -> bool
     requires { 0 < set_of (W.view w.now) set }
     ensures { result ≡ finds_nothing (thread_of (W.view w.now) thread) (set_of (W.view w.now) set) (W.view w.now).core }
 {
-    picked_task_event(w, false, w.task_of(thread)).is_none() && !w.has_ready_member(set)
+    let call = w.task_of(thread);
+    let cancellable = waits_cancellable(w, call);
+    picked_task_event(w, cancellable, call).is_none() && !w.has_ready_member(set)
 }
 
 // The strand stops, and its top waits on the set.
@@ -61,6 +74,7 @@ fn stop_waiting<W: Primitives>(w: &mut W, thread: ThreadId, set: SetId)
     let foot = foot_of(w, thread);
     stop(w, foot);
     let by_callback = false;
+    w.arrive(thread);
     w.stand_at(
         thread,
         PlaceId::Waiting { set, by_callback },
@@ -91,7 +105,8 @@ pub fn begin_wait<W: Primitives>(w: &mut W, thread: ThreadId, handle: u64) -> Op
         return OpResult::Stops(Label::Thread(ThreadLabel::Pauses(number)));
     }
     let call = w.task_of(thread);
-    let picked_event = picked_event_for(w, false, call, set, instance);
+    let cancellable = waits_cancellable(w, call);
+    let picked_event = picked_event_for(w, cancellable, call, set, instance);
     let given = given(w, picked_event);
     take(w, picked_event, call);
     OpResult::Continues(
@@ -155,7 +170,8 @@ pub fn go_on_waiting<W: Primitives>(w: &mut W, thread: ThreadId, set: SetId) -> 
     let number = w.number(thread);
     let instance = w.instance_of(thread);
     let call = w.task_of(thread);
-    let picked_event = picked_event_for(w, false, call, set, instance);
+    let cancellable = waits_cancellable(w, call);
+    let picked_event = picked_event_for(w, cancellable, call, set, instance);
     if matches!(picked_event, PickedEvent::Nothing) {
         stop_waiting(w, thread, set);
         return OpResult::Stops(Label::Thread(ThreadLabel::Pauses(number)));

@@ -83,6 +83,9 @@ pub host_implements : (mode : Mode) (n : ℕ) (r : Doer) (i : ℕ) (s : Core) (c
 host_implements mode n r i s c u fresh implements =
     subst (λ (b : Bool). Implements (trap_if b trap.SubtaskCancelAfterTerminal (after_cancel_by r mode n (subtask.Host i) (cancel_aborts_host i s))) s c u) (sym fresh) implements
 
+pub found_row : (mode : Mode) (n : ℕ) (r : Doer) (q : Subtask) (s : Core) → is_joined (join_of q s) ≡ false → cancel_found_by r mode n s q ≡ cancel_subtask_by r mode n s q
+found_row mode n r q s apart = ap (λ (b : Bool). trap_if b trap.WaitableSyncAndAsync (cancel_subtask_by r mode n s q)) apart
+
 pub found_implements : (mode : Mode) (n : ℕ) (r : Doer) (q : Subtask) (s : Core) (c : OpResult) (u : Core) → is_joined (join_of q s) ≡ false → Implements (cancel_subtask_by r mode n s q) s c u → Implements (cancel_found_by r mode n s q) s c u
 found_implements mode n r q s c u apart implements =
     subst (λ (b : Bool). Implements (trap_if b trap.WaitableSyncAndAsync (cancel_subtask_by r mode n s q)) s c u) (sym apart) implements

@@ -1,15 +1,15 @@
 -- Cancels of guest calls.
 use Rattle.std.proofs.Common.{T, ap, ap₂, arith, refl, subst, sym, ◌∙◌}
 use Rattle.std.specs.Option.{option_map_or}
-use Rattle.std.specs.Prelude.{Bool, None, Option, Some, false, if◌then◌else◌, is_some, not, option_map, true, ℕ, ◌+◌, ◌<◌, ◌==◌, ◌≡◌}
+use Rattle.std.specs.Prelude.{Bool, List, None, Option, Some, [], false, if◌then◌else◌, is_some, not, option_map, true, ℕ, ◌+◌, ◌&&◌, ◌<◌, ◌==◌, ◌∷◌, ◌≡◌, ◌||◌}
 use Rattle.task_table.specs.declared.id.TableId.{TableId}
 use Rattle.task_wait.specs.declared.keys.GuestTaskKey.{GuestTaskKey}
 use Rattle.task_wait.specs.declared.keys.ThreadKey.{ThreadKey}
 use Rattle.machine_data.specs.Core.{Core}
 use Rattle.machine_data.specs.Maps.{get}
 use Rattle.machine_data.specs.Moves.{has_entry, less, less_switch, promoted_unless, put_switch, unqueued, withdrawn}
-use Rattle.machine_data.specs.Read.{call_instance, event_of, has_ended, is_at, is_callback_yield, may_not_suspend, place_of, undelivered_end, was_started}
-use Rattle.machine_data.specs.Write.{on_call, on_instance, on_thread, remove_thread, set_do_not_suspend, set_end, set_exited, set_high, set_op_progress, set_join, set_low, set_task_event, set_saved_callee, set_switch, set_uninteresting}
+use Rattle.machine_data.specs.Read.{call_instance, cancel_was_asked, is_nil, is_second, event_of, has_ended, is_at, is_callback_yield, may_not_suspend, place_of, undelivered_end, was_started}
+use Rattle.machine_data.specs.Write.{set_cancel_asked, on_call, on_instance, on_thread, remove_thread, set_do_not_suspend, set_end, set_exited, set_high, set_op_progress, set_join, set_low, set_task_event, set_saved_callee, set_switch, set_uninteresting}
 use Rattle.machine_data.specs.declared.records.CallEnd.TheVariants as call_end
 use Rattle.machine_data.specs.declared.records.OpProgress.TheVariants as op_progress
 use Rattle.machine_data.specs.declared.records.Join.TheVariants as join
@@ -34,13 +34,14 @@ use Rattle.machine_rules.proofs.StopLemmas.{fresh_apart}
 use Rattle.ops_guests.specs.Ended.{ended}
 use Rattle.ops_guests.specs.Shown.{goes_as}
 use Rattle.machine_rules.specs.Finish.{Doer, OneNumber, finish}
-use Rattle.machine_rules.specs.Cancels.{AlreadyEnded, CallbackWaits, CallbackYields, CancelCase, Mode, OtherwiseRuns, StartNotRun, after_cancel_by, behind_switch, cancel_asks, cancel_case, cancel_ended_by, cancel_goes_behind, cancel_guest_by, cancel_label, cancel_promotes_yield, cancel_wakes_callback, is_callback_wait, pauses}
+use Rattle.machine_rules.specs.Cancels.{AlreadyEnded, AskedBefore, CallbackYields, CancelCase, Mode, OtherwiseRuns, StartNotRun, ThreadWaits, after_cancel_by, behind_switch, cancel_asks, cancel_case, cancel_ended_by, cancel_goes_behind, cancel_guest_by, cancel_label, cancel_promotes_yield, pauses, cancellable, is_waiting}
+use Rattle.machine_rules.specs.Step.{is_among}
 use Rattle.machine_rules.specs.Places.{HasPlace, entries, is_at_high, is_at_low, is_at_switch, is_fresh, one_if, says, switch_entries}
 use Rattle.core_primitives.specs.Apart.{IsApart, IsBehindNobody, IsSwitchUnqueued, IsUnqueued}
 use Rattle.core_primitives.specs.Live.{live_thread}
 use Rattle.core_primitives.specs.StateView.{KeepsBut, StateView, Tags, call_of, lost_thread, on_core, thread_of, with_core}
 use Rattle.ops_subtasks.proofs.EndLemmas.{cancel_ends}
-use Rattle.ops_subtasks.proofs.SteadyLemmas.{Steady, asked_steady, still_runs}
+use Rattle.ops_subtasks.proofs.SteadyLemmas.{Steady, asked_steady, marked_steady, steady_after, still_runs}
 
 -- ---- The first thread of a call
 
@@ -160,39 +161,52 @@ running_switched n s st m at = by_number m n (IsUnqueued m s)
     (λ e. let l = st.loose n (one_time n) in subst (λ (j : ℕ). IsUnqueued j s) (sym e) (record { high = l.high; low = l.low }))
     (λ d. switch_placed m s at (st.placed m (no_time m n d)))
 
-at_wait : (o : Option Place) → option_map_or is_callback_wait o false ≡ true → (x : ℕ) × ((b : Bool) × (o ≡ Some (place.Waiting x b)))
+at_wait : (o : Option Place) → option_map_or is_waiting o false ≡ true → (x : ℕ) × ((b : Bool) × (o ≡ Some (place.Waiting x b)))
 at_wait o h = grind arith
 
 at_yield : (o : Option Place) → option_map_or is_callback_yield o false ≡ true → ReadyAt o
 at_yield o h = grind arith
 
-module _ (n f : TableId ThreadKey) (k : ℕ) (s a b : StateView) (asked : a ≡ on_core (cancel_asks k) s) (first : thread_of s f ≡ k) (st : IsRunning (thread_of s n) s.core) where
-  asked_runs : IsRunning (thread_of a n) a.core
-  unfolding cancel_asks
-  asked_runs = still_runs n (cancel_asks k) s a asked (asked_steady k _ s.core) st
+-- the task is asked to end
+pub asks_steady : (k : ℕ) (s : Core) → Steady s (cancel_asks k s)
+unfolding cancel_asks
+asks_steady k s = let t = set_task_event k (Some own.Cancelled) s in steady_after s t (set_cancel_asked k t) (asked_steady k (Some own.Cancelled) s) (marked_steady k t)
 
+asked_runs : (n : TableId ThreadKey) (k : ℕ) (s a : StateView) → a ≡ on_core (cancel_asks k) s → IsRunning (thread_of s n) s.core → IsRunning (thread_of a n) a.core
+asked_runs n k s a asked st = still_runs n (cancel_asks k) s a asked (asks_steady k s.core) st
+
+place_asked : (f : TableId ThreadKey) (k : ℕ) (s a : StateView) → a ≡ on_core (cancel_asks k) s → place_of (thread_of a f) a.core ≡ place_of (thread_of s f) s.core
+unfolding cancel_asks set_task_event set_cancel_asked on_call
+place_asked f k s a asked = ap (λ (v : StateView). place_of (thread_of v f) v.core) asked
+
+-- a thread that waits becomes the switch entry
+module _ (n w : TableId ThreadKey) (k : ℕ) (s a b : StateView) (asked : a ≡ on_core (cancel_asks k) s) (st : IsRunning (thread_of s n) s.core) where
   pub asked_switched : IsSwitchUnqueued a.core
-  asked_switched = running_switched (thread_of a n) a.core asked_runs
+  asked_switched = running_switched (thread_of a n) a.core (asked_runs n k s a asked st)
+
+  pub switched_runs : (y : Why) → is_at (thread_of s w) s.core is_waiting ≡ true → b ≡ on_core (put_switch (thread_of a w) y) a → IsRunning (thread_of b n) b.core
+  switched_runs y waits put =
+      let p = at_wait (place_of (thread_of s w) s.core) waits in
+      stands_on n place.Running (put_switch (thread_of a w) y) a b put
+      (put_switch_good (thread_of a n) place.Running refl (thread_of a w) y (place.Waiting p.0 p.1.0) a.core (place_asked w k s a asked ∙ p.1.1) refl (asked_runs n k s a asked st))
+
+module _ (n f : TableId ThreadKey) (k : ℕ) (s a b : StateView) (asked : a ≡ on_core (cancel_asks k) s) (first : thread_of s f ≡ k) (st : IsRunning (thread_of s n) s.core) where
+  runs_asked : IsRunning (thread_of a n) a.core
+  runs_asked = asked_runs n k s a asked st
 
   first_place : (p : Option Place) → place_of k s.core ≡ p → place_of (thread_of a f) a.core ≡ p
-  unfolding cancel_asks set_task_event on_call
-  first_place p at = ap (λ (v : StateView). place_of (thread_of v f) v.core) asked ∙ (ap (λ (j : ℕ). place_of j s.core) first ∙ at)
-
-  pub switched_runs : (w : Why) → is_at k s.core is_callback_wait ≡ true → b ≡ on_core (put_switch (thread_of a f) w) a → IsRunning (thread_of b n) b.core
-  switched_runs w waits put =
-      let p = at_wait (place_of k s.core) waits in
-      stands_on n place.Running (put_switch (thread_of a f) w) a b put (put_switch_good (thread_of a n) place.Running refl (thread_of a f) w (place.Waiting p.0 p.1.0) a.core (first_place _ p.1.1) refl asked_runs)
+  first_place p at = place_asked f k s a asked ∙ (ap (λ (j : ℕ). place_of j s.core) first ∙ at)
 
   pub promoted_runs : is_at k s.core is_callback_yield ≡ true → b ≡ on_core (promoted_unless (thread_of a f)) a → IsRunning (thread_of b n) b.core
   promoted_runs yields put =
       let p = at_yield (place_of k s.core) yields in
-      stands_on n place.Running (promoted_unless (thread_of a f)) a b put (promoted_unless_stand (thread_of a n) place.Running (thread_of a f) a.core (other p) (p.0, (p.1.0, first_place _ p.1.1)) asked_runs)
+      stands_on n place.Running (promoted_unless (thread_of a f)) a b put (promoted_unless_stand (thread_of a n) place.Running (thread_of a f) a.core (other p) (p.0, (p.1.0, first_place _ p.1.1)) runs_asked)
     where
       both : {x : Mark} {w : Why} → Some place.Running ≡ Some (place.Ready x w) → ⊥
       both e = cc
 
       other : ReadyAt (place_of k s.core) → (thread_of a f == thread_of a n) ≡ false
-      other p = by_number (thread_of a f) (thread_of a n) ((thread_of a f == thread_of a n) ≡ false) (λ e. absurd (both (sym asked_runs.here ∙ (ap (λ j. place_of j a.core) (sym e) ∙ first_place _ p.1.1)))) (λ d. d)
+      other p = by_number (thread_of a f) (thread_of a n) ((thread_of a f == thread_of a n) ≡ false) (λ e. absurd (both (sym runs_asked.here ∙ (ap (λ j. place_of j a.core) (sym e) ∙ first_place _ p.1.1)))) (λ d. d)
 
 pub running_behind : (n : ℕ) (s : Core) → IsRunning n s → IsBehindNobody n s
 running_behind n s st = (st.loose n (one_time n)).callers
@@ -223,45 +237,68 @@ module _ (n : TableId ThreadKey) (k : TableId GuestTaskKey) (i : ℕ) (b : Bool)
 
 -- ---- Which case it is
 
+-- by the tests, one after another
+abbrev case_of : (ended started asked none yields : Bool) → CancelCase
+case_of ended started asked none yields =
+    if ended then AlreadyEnded else
+    if not started then StartNotRun else
+    if asked then AskedBefore else
+    if not none then ThreadWaits else
+    if yields then CallbackYields else OtherwiseRuns
+
 -- it has ended
 pub ended_implements : (mode : Mode) (n : ℕ) (r : Doer) (k : ℕ) (s : Core) (c : OpResult) (u : Core) → has_ended k s ≡ true → Implements (cancel_ended_by r mode n (subtask.Guest k) s (undelivered_end (event_of (subtask.Guest k) s))) s c u → Implements (cancel_guest_by r mode n k s (cancel_case k s)) s c u
 ended_implements mode n r k s c u over implements =
     subst (λ (y : CancelCase). Implements (cancel_guest_by r mode n k s y) s c u)
-    (sym (ap (λ (b : Bool). if b then AlreadyEnded else (if not (was_started k s) then StartNotRun else (if is_at k s is_callback_wait then CallbackWaits else (if is_at k s is_callback_yield then CallbackYields else OtherwiseRuns)))) over)) implements
+    (sym (ap (λ (b : Bool). case_of b (was_started k s) (is_second s.version && cancel_was_asked k s) (is_nil (cancellable k s)) (is_at k s is_callback_yield)) over)) implements
 
 module _ (mode : Mode) (n : ℕ) (r : Doer) (k : ℕ) (s : Core) (unended : has_ended k s ≡ false) where
-  unended_case : cancel_case k s ≡ (if not (was_started k s) then StartNotRun else (if is_at k s is_callback_wait then CallbackWaits else (if is_at k s is_callback_yield then CallbackYields else OtherwiseRuns)))
-  unended_case = ap (λ (b : Bool). if b then AlreadyEnded else (if not (was_started k s) then StartNotRun else (if is_at k s is_callback_wait then CallbackWaits else (if is_at k s is_callback_yield then CallbackYields else OtherwiseRuns)))) unended
+  unended_case : cancel_case k s ≡ case_of false (was_started k s) (is_second s.version && cancel_was_asked k s) (is_nil (cancellable k s)) (is_at k s is_callback_yield)
+  unended_case = ap (λ (b : Bool). case_of b (was_started k s) (is_second s.version && cancel_was_asked k s) (is_nil (cancellable k s)) (is_at k s is_callback_yield)) unended
 
   -- the start is withdrawn, and nothing is saved any more
   pub withdrawn_implements : was_started k s ≡ false → (m : ℕ) (c : OpResult) (u : Core) → m ≡ n → c ≡ goes_as (cancel_label mode m 3) m → u ≡ set_saved_callee n None (withdrawn k s) → Implements (cancel_guest_by r mode n k s (cancel_case k s)) s c (ended r n c u)
   withdrawn_implements fresh m c u number is core =
-      subst (λ (y : CancelCase). Implements (cancel_guest_by r mode n k s y) s c (ended r n c u)) (sym (unended_case ∙ ap (λ (b : Bool). if not b then StartNotRun else (if is_at k s is_callback_wait then CallbackWaits else (if is_at k s is_callback_yield then CallbackYields else OtherwiseRuns))) fresh)) (
+      subst (λ (y : CancelCase). Implements (cancel_guest_by r mode n k s y) s c (ended r n c u)) (sym (unended_case ∙ ap (λ (b : Bool). case_of false b (is_second s.version && cancel_was_asked k s) (is_nil (cancellable k s)) (is_at k s is_callback_yield)) fresh)) (
         is ∙ ap (λ (j : ℕ). goes_as (cancel_label mode j 3) j) number,
         ap (λ (y : OpResult). ended r n y u) is ∙ (cancel_ends mode r n m 3 u ∙ ap (λ (y : Core). finish r n (OneNumber 3) y) core),
       )
 
   module _ (started : was_started k s ≡ true) where
-    started_case : cancel_case k s ≡ (if is_at k s is_callback_wait then CallbackWaits else (if is_at k s is_callback_yield then CallbackYields else OtherwiseRuns))
-    started_case = unended_case ∙ ap (λ (b : Bool). if not b then StartNotRun else (if is_at k s is_callback_wait then CallbackWaits else (if is_at k s is_callback_yield then CallbackYields else OtherwiseRuns))) started
+    started_case : cancel_case k s ≡ case_of false true (is_second s.version && cancel_was_asked k s) (is_nil (cancellable k s)) (is_at k s is_callback_yield)
+    started_case = unended_case ∙ ap (λ (b : Bool). case_of false b (is_second s.version && cancel_was_asked k s) (is_nil (cancellable k s)) (is_at k s is_callback_yield)) started
 
-    pub waits_implements : (m : ℕ) (u : Core) → is_at k s is_callback_wait ≡ true → m ≡ n → u ≡ cancel_wakes_callback n k s → Implements (cancel_guest_by r mode n k s (cancel_case k s)) s (op_result.Stops (pauses m)) u
-    waits_implements m u waits number core =
-        subst (λ (c : CancelCase). Implements (cancel_guest_by r mode n k s c) s (op_result.Stops (pauses m)) u) (sym (started_case ∙ ap (λ (b : Bool). if b then CallbackWaits else (if is_at k s is_callback_yield then CallbackYields else OtherwiseRuns)) waits))
-        (ap (λ (j : ℕ). op_result.Stops (pauses j)) number, core)
+    -- a second cancel is a trap
+    pub asked_case : (is_second s.version && cancel_was_asked k s) ≡ true → cancel_case k s ≡ AskedBefore
+    asked_case asked = started_case ∙ ap (λ (b : Bool). case_of false true b (is_nil (cancellable k s)) (is_at k s is_callback_yield)) asked
 
-    module _ (awake : is_at k s is_callback_wait ≡ false) where
-      awake_case : cancel_case k s ≡ (if is_at k s is_callback_yield then CallbackYields else OtherwiseRuns)
-      awake_case = started_case ∙ ap (λ (b : Bool). if b then CallbackWaits else (if is_at k s is_callback_yield then CallbackYields else OtherwiseRuns)) awake
+    module _ (first : (is_second s.version && cancel_was_asked k s) ≡ false) where
+      first_case : cancel_case k s ≡ case_of false true false (is_nil (cancellable k s)) (is_at k s is_callback_yield)
+      first_case = started_case ∙ ap (λ (b : Bool). case_of false true b (is_nil (cancellable k s)) (is_at k s is_callback_yield)) first
 
-      pub yields_implements : (m : ℕ) (u : Core) → is_at k s is_callback_yield ≡ true → m ≡ n → u ≡ cancel_promotes_yield n k s → Implements (cancel_guest_by r mode n k s (cancel_case k s)) s (op_result.Stops (pauses m)) u
-      yields_implements m u yields number core =
-          subst (λ (c : CancelCase). Implements (cancel_guest_by r mode n k s c) s (op_result.Stops (pauses m)) u) (sym (awake_case ∙ ap (λ (b : Bool). if b then CallbackYields else OtherwiseRuns) yields))
-          (ap (λ (j : ℕ). op_result.Stops (pauses j)) number, core)
+      -- a thread waits that may be taken
+      pub waits_case : (w : ℕ) → is_among w (cancellable k s) ≡ true → cancel_case k s ≡ ThreadWaits
+      waits_case w among = first_case ∙ ap (λ (b : Bool). case_of false true false b (is_at k s is_callback_yield)) (some (cancellable k s) among)
+        where
+          some : (ns : List ℕ) → is_among w ns ≡ true → is_nil ns ≡ false
+          some [] none = absurd (cc)
+          some (m ∷ ns) there = refl
 
-      pub runs_implements : (c : OpResult) (u : Core) → is_at k s is_callback_yield ≡ false → Implements (after_cancel_by r mode n (subtask.Guest k) (cancel_asks k s)) s c u → Implements (cancel_guest_by r mode n k s (cancel_case k s)) s c u
-      runs_implements c u other implements = subst (λ (y : CancelCase). Implements (cancel_guest_by r mode n k s y) s c u) (sym (awake_case ∙ ap (λ (b : Bool). if b then CallbackYields else OtherwiseRuns) other)) implements
+      module _ (awake : cancellable k s ≡ []) where
+        awake_case : cancel_case k s ≡ (if is_at k s is_callback_yield then CallbackYields else OtherwiseRuns)
+        awake_case = first_case ∙ ap (λ (ns : List ℕ). case_of false true false (is_nil ns) (is_at k s is_callback_yield)) awake
 
-pub asks_steady : (k : ℕ) (s : Core) → Steady s (cancel_asks k s)
-unfolding cancel_asks
-asks_steady k s = asked_steady k (Some own.Cancelled) s
+        pub awake_other : cancel_case k s ≡ ThreadWaits → ⊥
+        awake_other e = by (is_at k s is_callback_yield) (sym awake_case ∙ e)
+          where
+            by : (b : Bool) → (if b then CallbackYields else OtherwiseRuns) ≡ ThreadWaits → ⊥
+            by true is = absurd (cc)
+            by false is = absurd (cc)
+
+        pub yields_implements : (m : ℕ) (u : Core) → is_at k s is_callback_yield ≡ true → m ≡ n → u ≡ cancel_promotes_yield n k s → Implements (cancel_guest_by r mode n k s (cancel_case k s)) s (op_result.Stops (pauses m)) u
+        yields_implements m u yields number core =
+            subst (λ (c : CancelCase). Implements (cancel_guest_by r mode n k s c) s (op_result.Stops (pauses m)) u) (sym (awake_case ∙ ap (λ (b : Bool). if b then CallbackYields else OtherwiseRuns) yields))
+            (ap (λ (j : ℕ). op_result.Stops (pauses j)) number, core)
+
+        pub runs_implements : (c : OpResult) (u : Core) → is_at k s is_callback_yield ≡ false → Implements (after_cancel_by r mode n (subtask.Guest k) (cancel_asks k s)) s c u → Implements (cancel_guest_by r mode n k s (cancel_case k s)) s c u
+        runs_implements c u other implements = subst (λ (y : CancelCase). Implements (cancel_guest_by r mode n k s y) s c u) (sym (awake_case ∙ ap (λ (b : Bool). if b then CallbackYields else OtherwiseRuns) other)) implements

@@ -179,9 +179,15 @@ unfolding set_join on_call on_work
 join_threads (subtask.Guest k) j s = refl
 join_threads (subtask.Host i) j s = refl
 
+-- what comes first hangs on no set that a subtask is in
+joined_preference : (sub : Subtask) (j : Join) (s : StateView) → preference (on_core (set_join sub j) s) ≡ preference s
+unfolding set_join on_call on_work
+joined_preference (subtask.Guest k) j s = refl
+joined_preference (subtask.Host i) j s = refl
+
 pub joined_first : (id : TableId ThreadKey) (sub : Subtask) (j : Join) (s t : StateView) → t ≡ on_core (set_join sub j) s → WakesFirst (preference t) t.core (thread_of t id) → WakesFirst (preference s) s.core (thread_of t id)
 joined_first id sub j s t e first =
-    wakes_as (preference s) s.core t.core (thread_of t id) (ap (λ (v : StateView). v.core.threads) e ∙ join_threads sub j s.core) (subst (λ (q : Preference). WakesFirst q t.core (thread_of t id)) (ap preference e) first)
+    wakes_as (preference s) s.core t.core (thread_of t id) (ap (λ (v : StateView). v.core.threads) e ∙ join_threads sub j s.core) (subst (λ (q : Preference). WakesFirst q t.core (thread_of t id)) (ap preference e ∙ joined_preference sub j s) first)
 
 -- what a join picks that shows this
 pub join_picks : (n : TableId ThreadKey) (sub : SubtaskId) (set : Option (TableId SetKey)) (s u : StateView) (r : OpResult) (m : ℕ) (o : Option ℕ) → r ≡ goes_as (join_label m o) m → ShowsFirst (preference s) s.core (join_label m o)

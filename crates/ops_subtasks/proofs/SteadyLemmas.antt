@@ -9,7 +9,7 @@ use Rattle.machine_data.specs.Core.{Core, Queues}
 use Rattle.machine_data.specs.Maps.{Records, get}
 use Rattle.machine_data.specs.Moves.{first_entry, first_low, passes_check}
 use Rattle.machine_data.specs.Read.{call_instance, entry_thread, event_of, first_in, instance_of, is_entry_in, is_stage_ended, no_callee, subtask_ended, task_of}
-use Rattle.machine_data.specs.Write.{on_call, on_thread, on_work, set_cancelled, set_join, set_task_event, set_phase, set_saved_callee}
+use Rattle.machine_data.specs.Write.{set_cancel_asked, on_call, on_thread, on_work, set_cancelled, set_join, set_task_event, set_phase, set_saved_callee}
 use Rattle.machine_data.specs.declared.component.Callee.{Callee}
 use Rattle.machine_data.specs.declared.records.Call.{Call}
 use Rattle.machine_data.specs.declared.records.Entry.{Entry}
@@ -136,6 +136,10 @@ saved_steady n b s = thread_steady n (λ t. record t { saved_callee = b }) s (λ
 pub asked_steady : (k : ℕ) (e : Option TaskEvent) (s : Core) → Steady s (set_task_event k e s)
 unfolding set_task_event
 asked_steady k e s = call_steady k (λ c. record c { task_event = e }) s (λ c. refl) (λ c. refl) (λ c. refl)
+
+pub marked_steady : (k : ℕ) (s : Core) → Steady s (set_cancel_asked k s)
+unfolding set_cancel_asked
+marked_steady k s = call_steady k (λ c. record c { cancel_asked = true }) s (λ c. refl) (λ c. refl) (λ c. refl)
 
 pub phase_steady : (i : ℕ) (p : Phase) (s : Core) → Steady s (set_phase i p s)
 unfolding set_phase

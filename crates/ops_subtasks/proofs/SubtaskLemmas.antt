@@ -85,6 +85,10 @@ at_kept i h q s row e same = go (subtask_at i h s) refl e
     go (Some sub) at d = same sub at ∙ ap row (same_some q (live_subtask sub s) d)
 
 -- the rule as contracts see it
+-- the rule of an op on what the handle names is that of what it names
+pub named_row : (n i h : ℕ) (q : Subtask) (row : Subtask → Progress) (s : Core) → i ≡ instance_of n s → Some q ≡ option_map (λ sub. live_subtask sub s) (subtask_at i h s) → ((sub : Subtask) → subtask_at i h s ≡ Some sub → row sub ≡ row (live_subtask sub s)) → or_trap (subtask_at (instance_of n s) h s) trap.BadHandle row ≡ row q
+named_row n i h q row s at named same = ap (λ (j : ℕ). or_trap (subtask_at j h s) trap.BadHandle row) (sym at) ∙ at_kept i h q s row named same
+
 pub named_implements : (n i h : ℕ) (q : Subtask) (row : Subtask → Progress) (s t : Core) (r : OpResult) → i ≡ instance_of n s → Some q ≡ option_map (λ sub. live_subtask sub s) (subtask_at i h s) → ((sub : Subtask) → subtask_at i h s ≡ Some sub → row sub ≡ row (live_subtask sub s)) → Implements (row q) s r t → Implements (or_trap (subtask_at (instance_of n s) h s) trap.BadHandle row) s r t
 named_implements n i h q row s t r at named same implements =
     subst (λ (j : ℕ). Implements (or_trap (subtask_at j h s) trap.BadHandle row) s r t) at (subst (λ (p : Progress). Implements p s r t) (sym (at_kept i h q s row named same)) implements)

@@ -17,14 +17,16 @@ use Rattle.machine_data.specs.declared.records.Subtask.TheVariants as subtask
 use Rattle.machine_data.specs.declared.trap.Trap.TheVariants as trap
 use Rattle.ops_guests.specs.Does.{Rule}
 use Rattle.machine_rules.specs.Calls.{FirstPoll, call_host_by, call_let_go, call_queues, call_status_by, call_sync_host_by, call_sync_status_by, call_taken, call_with_handle, enter_rule, next_thread, status_found, work_deleted, work_value}
-use Rattle.machine_rules.specs.Cancels.{Mode, after_cancel_by, cancel_asks, cancel_case, cancel_ended_by, cancel_guest_by, cancel_host_by, cancel_rule}
+use Rattle.machine_rules.specs.Cancels.{Mode, after_cancel_by, cancel_asks, cancel_case, cancel_ended_by, cancel_guest_by, cancel_host_by, cancel_rule, cancel_wakes}
 use Rattle.machine_rules.specs.Finish.{OneNumber, finish}
 use Rattle.machine_rules.specs.Progress.{Continues, Stops, trap_if}
 use Rattle.machine_rules.specs.Sets.{join_done_by}
 use Rattle.task_table.specs.declared.id.TableId.{TableId}
+use Rattle.task_wait.specs.declared.keys.GuestTaskKey.{GuestTaskKey}
 use Rattle.task_wait.specs.declared.keys.SetKey.{SetKey}
+use Rattle.task_wait.specs.declared.keys.ThreadKey.{ThreadKey}
 use Rattle.core_primitives.specs.Names.{subtask_in}
-use Rattle.core_primitives.specs.StateView.{StateView, set_of}
+use Rattle.core_primitives.specs.StateView.{StateView, call_of, on_core, set_of, thread_of}
 use Rattle.core_primitives.specs.declared.names.SubtaskId.{SubtaskId}
 
 -- ---- Calls
@@ -96,6 +98,10 @@ goes_on_awaiting sync sub v = goes_on_from (mode_of sync) (op_progress.AwaitsEnd
 
 abbrev pub cancels_guest : Mode → (call : ℕ) → Rule
 cancels_guest mode k d n ch s = cancel_guest_by d mode n k s (cancel_case k s)
+
+-- the canceller goes behind the waiting thread of the call, which becomes the switch entry
+abbrev pub wakes_cancelled : TableId ThreadKey → TableId GuestTaskKey → (waiting : TableId ThreadKey) → StateView → StateView
+wakes_cancelled id call waiting s = on_core (cancel_wakes (thread_of s id) (call_of s call) (thread_of s waiting)) s
 
 abbrev pub cancels_host : Mode → (work : ℕ) → Rule
 cancels_host mode i d n ch s = cancel_host_by d mode n i s

@@ -1,31 +1,32 @@
 //! The cancel of a guest call.
-ghost use Rattle.std.specs.Prelude.{◌≡◌, ◌<◌, None, false, is_some, true};
+ghost use Rattle.std.specs.Prelude.{◌≡◌, ◌<◌, ◌&&◌, None, false, is_some, true};
 ghost use Rattle.ops_subtasks.specs.Refused.{mode_of};
-ghost use Rattle.ops_subtasks.specs.Rules.{asks_to_end, cancels_guest};
+ghost use Rattle.ops_subtasks.specs.Rules.{asks_to_end, cancels_guest, wakes_cancelled};
 ghost use Rattle.laws_states.specs.Order.{StartsAwaited, StartsThere};
 ghost use Rattle.machine_data.specs.Maps.{get};
-ghost use Rattle.machine_data.specs.Read.{has_ended, is_at, is_callback_yield, place_of, was_started};
+ghost use Rattle.machine_data.specs.Read.{cancel_was_asked, has_ended, is_at, is_callback_yield, is_second, place_of, was_started};
 ghost use Rattle.ops_guests.specs.Does.{DoesRule, KeepsRest, SameNames};
 ghost use Rattle.ops_guests.specs.Running.{IsRunning};
-ghost use Rattle.machine_rules.specs.Cancels.{behind_switch, cancel_asks, cancel_goes_behind, cancel_promotes_yield, cancel_wakes_callback, is_callback_wait};
-ghost use Rattle.machine_data.specs.Moves.{withdrawn};
+ghost use Rattle.machine_rules.specs.Cancels.{behind_switch, cancel_asks, cancel_goes_behind, cancel_promotes_yield, cancel_why, is_waiting};
+ghost use Rattle.machine_data.specs.Moves.{is_callback_waiter, withdrawn};
+ghost use Rattle.core_primitives.specs.Names.{why_in};
 ghost use Rattle.machine_data.specs.Write.{set_saved_callee};
 ghost use Rattle.machine_rules.specs.Places.{is_fresh, is_there};
 ghost use Rattle.core_primitives.specs.Apart.{IsBehindNobody};
-ghost use Rattle.core_primitives.specs.StateView.{call_of, on_core, thread_of, KeepsBut, lost_thread};
+ghost use Rattle.core_primitives.specs.StateView.{Tags, call_of, on_core, thread_of, KeepsBut, lost_thread};
 
 use crate::end_ops::{cancel_ended, cancelled, finish_cancel, refusal};
 use crate::withdrawals::withdraw;
 use core_primitives::{
     CallId, DeliveryId, JoinId, OpProgressId, Primitives, SubtaskId, ThreadId, WhyId,
 };
-use machine_data::{Delivery, Label, Place, TaskEvent, ThreadLabel, Why};
+use machine_data::{Delivery, Label, Place, TaskEvent, ThreadLabel, Trap, Version, Why};
 use ops_guests::OpResult;
 use ops_moves::{foot_of, promote_unless, put_behind, put_switch};
 
 // The thread waits on a set by its callback.
 fn is_callback_wait<W: Primitives>(w: &W, thread: ThreadId) -> bool
-    ensures { result ≡ is_at (thread_of (W.view w.now) thread) (W.view w.now).core is_callback_wait }
+    ensures { result ≡ is_callback_waiter (thread_of (W.view w.now) thread) (W.view w.now).core }
 {
     match w.place(thread) {
         Some(
@@ -53,12 +54,13 @@ fn is_callback_yield<W: Primitives>(w: &W, thread: ThreadId) -> bool
     }
 }
 
-// The task finds Cancelled as its task event.
+// A cancel was asked, and the task finds Cancelled as its task event.
 #[tactic(auto, unfolding(machine_rules::specs::Cancels::cancel_asks))]
 fn ask<W: Primitives>(w: &mut W, call: CallId)
     ensures { W.view w.new ≡ on_core (cancel_asks (call_of (W.view w.old) call)) (W.view w.old) }
 {
     w.set_task_event(call, Some(TaskEvent::Cancelled));
+    w.set_cancel_asked(call);
 }
 
 // A thread goes behind the entry at switch, if one is there.
@@ -91,18 +93,40 @@ fn go_behind<W: Primitives>(w: &mut W, thread: ThreadId, call: CallId)
     w.set_op_progress(thread, OpProgressId::Cancels(subtask));
 }
 
-// The waiting callback becomes the switch entry.
-#[tactic(auto, unfolding(machine_rules::specs::Cancels::cancel_wakes_callback))]
-fn wake_callback<W: Primitives>(w: &mut W, thread: ThreadId, call: CallId, first: ThreadId)
+// Whether a cancel was asked of the call before, in version 2.
+fn was_asked_before<W: Primitives>(w: &W, call: CallId) -> bool
+    ensures { result ≡ is_second (W.view w.now).core.version && cancel_was_asked (call_of (W.view w.now) call) (W.view w.now).core }
+{
+    match w.version() {
+        Version::One => false,
+        Version::Two => w.cancel_was_asked(call),
+    }
+}
+
+// Why a thread that waits is woken by a cancel: a callback is given it, and a `wait` is resumed.
+fn cancel_why(by_callback: bool) -> WhyId
+    ensures { (tags : Tags) → why_in tags result ≡ cancel_why by_callback }
+{
+    if by_callback {
+        WhyId::Delivery(DeliveryId::Cancel)
+    } else {
+        WhyId::Resumption
+    }
+}
+
+// The thread of the call, which waits, becomes the switch entry.
+#[tactic(auto, unfolding(machine_rules::specs::Cancels::cancel_wakes))]
+fn wake_waiting<W: Primitives>(w: &mut W, thread: ThreadId, call: CallId, waiting: ThreadId)
     requires live { 0 < thread_of (W.view w.old) thread }
     requires running { IsRunning (thread_of (W.view w.old) thread) (W.view w.old).core }
     requires named { 0 < call_of (W.view w.old) call }
-    requires first { thread_of (W.view w.old) first ≡ call_of (W.view w.old) call }
-    requires waits { is_at (call_of (W.view w.old) call) (W.view w.old).core is_callback_wait ≡ true }
-    ensures { W.view w.new ≡ on_core (cancel_wakes_callback (thread_of (W.view w.old) thread) (call_of (W.view w.old) call)) (W.view w.old) }
+    requires waiting { 0 < thread_of (W.view w.old) waiting }
+    requires waits { is_at (thread_of (W.view w.old) waiting) (W.view w.old).core is_waiting ≡ true }
+    ensures { W.view w.new ≡ wakes_cancelled thread call waiting (W.view w.old) }
 {
+    let why = cancel_why(is_callback_wait(w, waiting));
     ask(w, call);
-    put_switch(w, first, WhyId::Delivery(DeliveryId::Cancel));
+    put_switch(w, waiting, why);
     go_behind(w, thread, call);
 }
 
@@ -146,11 +170,14 @@ fn cancel_started<W: Primitives>(w: &mut W, thread: ThreadId, sync: bool, call: 
 {
     w.none_is_zero();
     let number = w.number(thread);
-    let first = w.first_thread(call);
-    if is_callback_wait(w, first) {
-        wake_callback(w, thread, call, first);
+    if was_asked_before(w, call) {
+        return OpResult::Traps(Trap::SubtaskCancelAfterTerminal);
+    }
+    if let Some(waiting) = w.first_cancellable(call) {
+        wake_waiting(w, thread, call, waiting);
         return OpResult::Stops(Label::Thread(ThreadLabel::Pauses(number)));
     }
+    let first = w.first_thread(call);
     if is_callback_yield(w, first) {
         promote_yield(w, thread, call, first);
         return OpResult::Stops(Label::Thread(ThreadLabel::Pauses(number)));

@@ -12,7 +12,7 @@ use Rattle.machine_data.specs.declared.records.Turn.TheVariants as turn
 use Rattle.machine_data.specs.declared.scenario.MainOpDef.{MainOpDef}
 use Rattle.machine_data.specs.declared.statuses.Mark.{Mark}
 use Rattle.machine_rules.specs.MainOps.{Answers, Does, MainProgress, Pends, act_of, advanced_main, line_of, main_rule, op_at}
-use Rattle.machine_rules.specs.Progress.{Asks, Fails, Continues, Never, Ordered, Progress, Stops, Traps}
+use Rattle.machine_rules.specs.Progress.{Asks, Fails, Continues, Never, OneOf, Ordered, Progress, Stops, Traps}
 use Rattle.machine_rules.specs.Stalled.{Setting, is_unended_take, may_deadlock}
 use Rattle.machine_rules.specs.Step.{DeadlockStep, EmptyFor, FuturesStep, MainProgresses, MainStep, OpenProgresses, OpenStep, Polled, Progresses, RestStep, ScriptStep, Step, TakeStep, TurnStep, did, entry_number, unwound}
 use Rattle.machine_rules.specs.Takes.{popped, take_rule}
@@ -49,6 +49,7 @@ progress_settles s base n (Traps why) l t h = at_settled s (unwound n base) s.ma
 progress_settles s base n (Fails i) l t h = at_settled s (unwound n base) s.main turn.Over t h.1
 progress_settles s base n Never l t h = absurd h
 progress_settles s base n (Ordered ns next) l t h = progress_settles s base n (next h.0) l t h.1.1
+progress_settles s base n (OneOf ns next) l t h = progress_settles s base n (next h.0) l t h.1.1
 progress_settles s base n (Asks next) l t h = progress_settles s base n (next h.0) l t h.1
 
 scripted_settles : (s : State) (p : MainPlace) (o : MainOpDef) (q : MainProgress) (x : Label) (t : State) → MainProgresses s p o q x t → IsSettled t.core t.turn

@@ -18,7 +18,9 @@ use Rattle.machine_data.specs.declared.outcome.Outcome.TheVariants as outcome
 use Rattle.machine_data.specs.declared.records.Entry.TheVariants as entry
 use Rattle.machine_data.specs.declared.records.Turn.{Turn}
 use Rattle.machine_data.specs.declared.records.Turn.TheVariants as turn
+use Rattle.machine_data.specs.Write.{set_high, set_low, set_switch}
 use Rattle.machine_data.specs.declared.statuses.Mark.{Mark}
+use Rattle.machine_data.specs.declared.statuses.Mark.TheVariants as marks
 use Rattle.core_primitives.specs.Preferences.{preference}
 use Rattle.machine_rules.specs.Picks.{Picks, Preference}
 use Rattle.ops_guests.proofs.CalmLemmas.{picks_implements}
@@ -252,6 +254,13 @@ next_is s r mark e next is = sym next ∙ ap (option_map (λ (x : Mark × EntryI
 pub left_is : (s u : StateView) (r : Option (Mark × EntryId)) (mark : Mark) (e : EntryId) → IfSome r (λ x. u ≡ on_core (popped x.0) s) → r ≡ Some (mark, e) → u ≡ on_core (popped mark) s
 left_is s u r mark e left is = subst (λ (o : Option (Mark × EntryId)). IfSome o (λ x. u ≡ on_core (popped x.0) s)) is left
 
+-- what is preferred doesn't hang on entries
+pub left_preference : (mark : Mark) (s u : StateView) → u ≡ on_core (popped mark) s → preference u ≡ preference s
+unfolding popped set_switch set_high set_low
+left_preference marks.Switch s u left = ap preference left
+left_preference marks.High s u left = ap preference left
+left_preference marks.Low s u left = ap preference left
+
 -- what the taking of a push shows
 abbrev pub push_made : Mark → ℕ → MadeStep
 push_made mark i = record { label = label.Take (take_label.Push mark i); turn = turn.Main }
@@ -276,7 +285,7 @@ module _ (c : Component) (ended : Bool) (mark : Mark) (id : TableId HostTaskKey)
   host_makes next picks current turn_is =
       let i = work_of s id in
       let first = subst (λ k. PicksFirst (preference u) (scripted_host_rule mark k (choice_of made.label).woken u.core) made.label u.core (op_result.Stops made.label) t.core) (ap (λ (v : StateView). work_of v id) left) picks in
-      let preferred = subst (λ (q : Preference). PicksFirst q (scripted_host_rule mark i (choice_of made.label).woken u.core) made.label u.core (op_result.Stops made.label) t.core) (ap preference left) first in
+      let preferred = subst (λ (q : Preference). PicksFirst q (scripted_host_rule mark i (choice_of made.label).woken u.core) made.label u.core (op_result.Stops made.label) t.core) (left_preference mark s u left) first in
       let named = picks_implements first in
       let makes : MakesStep c (turn.Take ended) s made t = record {
         step = λ x component m. subst (λ (p : Turn). Step x (state_at s.core m (turn.Take ended)) made.label (state_at t.core m p)) (sym turn_is)

@@ -3,7 +3,7 @@ use Rattle.std.specs.Prelude.{◌≡◌, ◌<◌, List, ℕ, Bool, true, false, 
 use Rattle.ops_dispatch.specs.Fits.{HasHandles, HasInstances}
 use Rattle.laws_states.specs.Order.{InOrder}
 pub use Rattle.laws_states.specs.Order.{is_open}
-use Rattle.machine_data.specs.Core.{Core, Main, One, State}
+use Rattle.machine_data.specs.Core.{Core, Main, State}
 use Rattle.machine_data.specs.Maps.{get}
 use Rattle.machine_data.specs.Read.{next_entry}
 use Rattle.machine_data.specs.declared.component.Component.{Component}
@@ -29,7 +29,7 @@ use Rattle.core_primitives.specs.StateView.{StateView}
 
 -- the state with this core and this part of main, at this turn
 abbrev pub state_at : Core → Main → Turn → State
-state_at s m p = record { version = One; core = s; main = m; turn = p }
+state_at s m p = record { core = s; main = m; turn = p }
 
 -- The core is in order at this turn, whatever main's part is, and each instance of the component is there, with its table of handles.
 pub record CoreInOrder (c : Component) (p : Turn) (s : Core) : Type 0 where

@@ -27,7 +27,7 @@ server_setting x = record { component = x.component; script = []; idle = x.idle 
 
 -- where such a run begins
 abbrev pub server_opening : Scenario → State
-server_opening x = opening (length x.component.instances) x.handles x.table Unscripted
+server_opening x = opening x.rules (length x.component.instances) x.handles x.table Unscripted
 
 -- Some run of the scenario's component with at most so many steps shows these labels and has ended in this outcome. In it the
 -- requests are served.

@@ -43,6 +43,7 @@ pub(crate) fn serve_scenario(
     let mut store: Store<(), ScriptedHost> = new_store(
         alloc,
         (),
+        scenario.rules,
         scenario.component.instances.len(),
         scenario.handles,
         scenario.table,

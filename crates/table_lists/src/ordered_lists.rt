@@ -15,9 +15,9 @@ use table_links::{Links, Node};
 /// task, then of the thread, then by the place in the table of their kind.
 #[derive(Clone, Copy, PartialEq, Eq, PartialOrd, Ord)]
 pub struct OrderKey {
-    /// The place of the call, or of the host work, in the resource table.
-    pub task: u32,
-    /// The place of the thread there; 0 for a call or a host work.
+    /// The place of the call, or of the host work, in the resource table; of a thread that goes as it came, when it came.
+    pub task: u64,
+    /// The place of the thread there; 0 for a call, a host work or a thread that goes as it came.
     pub thread: u32,
     /// The place in the table of their kind.
     pub place: u32,
@@ -178,7 +178,7 @@ fn put_inside(
     skip_lists: &SkipLists,
     chain: usize,
     node: Node,
-    task: u32,
+    task: u64,
     thread: u32,
     place: u32,
 )

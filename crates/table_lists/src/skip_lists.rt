@@ -326,7 +326,7 @@ impl SkipLists {
 
     // It takes the order key's numbers, so that an order key of a node without skip nodes isn't in memory for it.
     #[cold]
-    fn enter_skip_levels(&mut self, node: Node, chain: usize, task: u32, thread: u32, place: u32) {
+    fn enter_skip_levels(&mut self, node: Node, chain: usize, task: u64, thread: u32, place: u32) {
         let order_key = OrderKey {
             task,
             thread,

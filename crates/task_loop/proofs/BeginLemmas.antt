@@ -1,4 +1,5 @@
 -- What a run asks that was begun.
+use Rattle.machine_data.specs.declared.scenario.Version.{Version}
 use Rattle.store_works.specs.KeptWorks.{HoldsNone}
 use Rattle.std.proofs.Common.{ap₂, ap, arith, refl, subst, sym, ◌∙◌}
 use Rattle.std.specs.Prelude.{Bool, IfSome, Option, List, None, length, true, ℕ, ◌≡◌, ◌≤◌, ◌^◌}
@@ -74,14 +75,14 @@ module _ {M T H G : Type 0} (says : Says M) (course : H → HostDef) (c : Compon
     may_start order current knows works asked few =
         subst (λ (t : Store T H G). MayRun says course c (at run m t trace)) (sym begun) (may_begin (at run m (record st { running = true }) trace) covered main order current suits knows works asked few)
 
-    current_fresh : (n handles table : ℕ) → st.state ≡ with_core (fresh n handles table) nothing → running_of st.state ≡ None
-    current_fresh n handles table is = ap running_of is
+    current_fresh : (v : Version) (n handles table : ℕ) → st.state ≡ with_core (fresh v n handles table) nothing → running_of st.state ≡ None
+    current_fresh v n handles table is = ap running_of is
 
     -- of a new one
-    pub may_open : CodesInCallbacks c → (n handles table : ℕ) → length c.instances ≤ n → st.state ≡ with_core (fresh n handles table) nothing → HoldsNone st.works → says.knows m st.state → IsAsked st.state →
+    pub may_open : CodesInCallbacks c → (v : Version) (n handles table : ℕ) → length c.instances ≤ n → st.state ≡ with_core (fresh v n handles table) nothing → HoldsNone st.works → says.knows m st.state → IsAsked st.state →
         MayRun says course c (at run m new trace)
-    may_open codes n handles table enough is none knows asked =
-        may_start (subst (λ (s : StateView). CoreInOrder c turn.Main s.core) (sym is) (core_in_order_fresh c codes n handles table enough))
-        (current_fresh n handles table is) knows
-        (new_holds course st n handles table none (ap (λ (s : StateView). s.core) is)) asked
-        (let given = ap (λ (s : StateView). given s.core) is ∙ given_fresh n handles table in omega (arith, given))
+    may_open codes v n handles table enough is none knows asked =
+        may_start (subst (λ (s : StateView). CoreInOrder c turn.Main s.core) (sym is) (core_in_order_fresh c codes v n handles table enough))
+        (current_fresh v n handles table is) knows
+        (new_holds course st v n handles table none (ap (λ (s : StateView). s.core) is)) asked
+        (let given = ap (λ (s : StateView). given s.core) is ∙ given_fresh v n handles table in omega (arith, given))

@@ -81,7 +81,7 @@ use Rattle.machine_rules.proofs.PlacingLemmas.{placing_shifted, shifted_works}
 use Rattle.machine_rules.specs.Calls.{call_made, enter_rule, enter_runs, next_thread, with_thread_handle}
 use Rattle.machine_rules.specs.OpParts.{can_come, is_data_op, queues_work}
 use Rattle.machine_rules.specs.Ends.{returned, direct_exit_rule, exit_rule, exit_rule_for, implicit_exit_rule, may_tell}
-use Rattle.machine_rules.specs.Progress.{Asks, Fails, Continues, Never, Ordered, Progress, Stops, Traps, may, or_trap, trap_if}
+use Rattle.machine_rules.specs.Progress.{Asks, Fails, Continues, Never, OneOf, Ordered, Progress, Stops, Traps, may, or_trap, trap_if}
 use Rattle.machine_rules.specs.Scripts.{export_kind, op_of}
 use Rattle.machine_rules.specs.Step.{Progresses, op_rule}
 use Rattle.machine_rules.specs.Threads.{has_yielded, resume_why}
@@ -359,6 +359,7 @@ stops_base (Traps why) s u t l h = let e = h.0 in absurd (cc)
 stops_base (Fails i) s u t l h = let e = h.0 in absurd (cc)
 stops_base Never s u t l h = h
 stops_base (Ordered ns next) s u t l h = (h.0, (h.1.0, stops_base (next h.0) s u t l h.1.1))
+stops_base (OneOf ns next) s u t l h = (h.0, (h.1.0, stops_base (next h.0) s u t l h.1.1))
 stops_base (Asks next) s u t l h = (h.0, stops_base (next h.0) s u t l h.1)
 
 module _ (n v : ℕ) (s : Core) where

@@ -1,4 +1,5 @@
 -- What the ops of a main tell of groups.
+use Rattle.machine_data.specs.declared.scenario.Version.{Version}
 use Rattle.std.proofs.Common.{ap, arith, inl, inr, refl, subst, sym, ◌∙◌, ◌≡◌}
 use Rattle.std.proofs.lemmas.Bool.Decides.{nat_tests}
 use Rattle.std.specs.Prelude.{Err, IfOk, List, None, Ok, OnOk, Option, Result, Some, [], false, map, not, true, ℕ, ◌++◌, ◌+◌, ◌==◌, ◌∷◌, ◌≤◌}
@@ -85,6 +86,6 @@ module _ (c : Component) (ops : List MainOpDef) (m : Main) (s : StateView) (n : 
 
 -- ---- A new store
 
-pub fresh_asked : (i h tb : ℕ) (s : StateView) → s ≡ with_core (fresh i h tb) nothing → IsAsked s
+pub fresh_asked : (rules : Version) (i h tb : ℕ) (s : StateView) → s ≡ with_core (fresh rules i h tb) nothing → IsAsked s
 unfolding fresh
-fresh_asked i h tb s is = subst (λ (v : StateView). IsAsked v) (sym is) refl
+fresh_asked rules i h tb s is = subst (λ (v : StateView). IsAsked v) (sym is) refl

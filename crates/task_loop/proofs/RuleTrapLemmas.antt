@@ -42,7 +42,7 @@ use Rattle.ops_guests.specs.declared.op_result.OpResult.TheVariants as op_result
 use Rattle.machine_rules.proofs.Machine.{and_parts}
 use Rattle.machine_rules.specs.Calls.{FirstPoll}
 use Rattle.machine_rules.specs.Finish.{SomeHost}
-use Rattle.machine_rules.specs.Progress.{Asks, Fails, Continues, Never, Ordered, Progress, Stops, Traps}
+use Rattle.machine_rules.specs.Progress.{Asks, Fails, Continues, Never, OneOf, Ordered, Progress, Stops, Traps}
 use Rattle.machine_rules.specs.Scripts.{export_kind, op_of}
 use Rattle.machine_rules.specs.Threads.{has_yielded, resume_later_rule, resume_why}
 use Rattle.ops_turns.specs.Turn.{running_of}
@@ -81,6 +81,7 @@ met_trap (Traps why) h s r t is w e = let a = is.0 in let same : why ≡ w = cc 
 met_trap (Fails i) h s r t is w e = let a = is.0 in absurd (cc)
 met_trap Never h s r t is w e = absurd is
 met_trap (Ordered ns next) h s r t is w e = met_trap (next is.0) (h is.0) s r t is.1.1 w e
+met_trap (OneOf ns next) h s r t is w e = met_trap (next is.0) (h is.0) s r t is.1.1 w e
 met_trap (Asks next) h s r t is w e = met_trap (next is.0) (h is.0) s r t is.1 w e
 
 trapped_as : {A : Type 0} (f : OpAnswer → A) (r : OpResult) (w : Trap) → Err (task_error.Trap w) ≡ answered f r → r ≡ op_result.Traps w
@@ -136,6 +137,7 @@ module _ (s t : StateView) where
   returned_trap (Fails i) r h is failed = absurd is
   returned_trap Never r h is failed = absurd is
   returned_trap (Ordered ns next) r h is failed = absurd is
+  returned_trap (OneOf ns next) r h is failed = absurd is
   returned_trap (Asks next) r h is failed = absurd is
 
   pub returns_not : (n v : ℕ) (own : Bool) (r : Result (Unit {0}) TaskError) → Returns n v own s r t → Failed r → ⊥
@@ -173,6 +175,7 @@ module _ (s t : StateView) where
   lawful_later (Fails i) h = tt
   lawful_later Never h = tt
   lawful_later (Ordered ns next) h = tt
+  lawful_later (OneOf ns next) h = tt
   lawful_later (Asks next) h = tt
 
   lawful_promoted : (b : Bool) (m : ℕ) → Lawful (promoted_if b m s.core)

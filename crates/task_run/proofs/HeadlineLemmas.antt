@@ -27,7 +27,7 @@ use Rattle.task_run.specs.declared.scenario.Scenario.{Scenario}
 
 module _ (x : Scenario) (runnable : IsRunnable x) where
   -- the opening state is that of a new store with main at its first op
-  pub opens_is : state_at (fresh (length x.component.instances) x.handles x.table) (Scripted main_opening) turn.Main ≡ opens (machine_scenario x)
+  pub opens_is : state_at (fresh x.rules (length x.component.instances) x.handles x.table) (Scripted main_opening) turn.Main ≡ opens (machine_scenario x)
   unfolding opens
   opens_is = refl
 

@@ -80,11 +80,11 @@ module _ (x : Scenario) (runnable : IsRunnable x) where
   module _ (ls : List Label) (t : State) (run : Run (setting_of (machine_scenario x)) (opens (machine_scenario x)) ls t) where
     ends_once : EndsOnce c (history (setting_of (machine_scenario x)) (opens (machine_scenario x)) ls t run)
     unfolding opens RunsAreOnce
-    ends_once = runs_are_once (setting_of (machine_scenario x)) runnable.codes (length c.instances) x.handles x.table (Scripted main_opening) refl ls t run
+    ends_once = runs_are_once (setting_of (machine_scenario x)) runnable.codes x.rules (length c.instances) x.handles x.table (Scripted main_opening) refl ls t run
 
     one_holds : OneHolder (history (setting_of (machine_scenario x)) (opens (machine_scenario x)) ls t run)
     unfolding opens ScriptsHoldOne
-    one_holds = scripts_hold_one (setting_of (machine_scenario x)) runnable.codes (length c.instances) x.handles x.table main_opening callees ls t run
+    one_holds = scripts_hold_one (setting_of (machine_scenario x)) runnable.codes x.rules (length c.instances) x.handles x.table main_opening callees ls t run
 
   pub scenario_keeps : Keeps (machine_scenario x)
   scenario_keeps = record { once = ends_once; alone = one_holds }

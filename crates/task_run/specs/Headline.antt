@@ -24,6 +24,7 @@ machine_names n = record { instance = n.instance; exports = n.exports }
 -- the scenario as the machine has it
 abbrev pub machine_scenario : Scenario → ScenarioDef
 machine_scenario x = record {
+  version = x.rules;
   handles = x.handles;
   table = x.table;
   idle = x.idle;

@@ -73,6 +73,7 @@ main_op (text.Ready f) = op.Ready (func_of f)
 
 abbrev pub scenario_of : ScenarioText → Scenario
 scenario_of s = record {
+  rules = s.version;
   handles = s.handles;
   table = s.table;
   idle = s.idle;

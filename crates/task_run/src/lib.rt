@@ -12,7 +12,7 @@ mod script;
 
 pub use asked::AskedSpawns;
 pub use lower::{component_of, read_scenario, scenario_of};
-pub use machine_data::{IdleLine, NoMemory, Operand, Seq};
+pub use machine_data::{IdleLine, NoMemory, Operand, Seq, Version};
 pub use program::{TOO_LONG, ToolEnd, USAGE, counted, tool};
 pub use report::{Report, new_store, print_report, print_run, run_scenario, traps_on_idle};
 pub use scenario::{InstanceNames, MainOp, Scenario};

@@ -216,6 +216,7 @@ pub fn scenario_of(alloc: Global, text: ScenarioText) -> Result<Scenario, AllocE
     let (names, instances) = instance_defs(alloc, text.instances)?;
     let (host_names, hosts) = host_defs(alloc, text.hosts)?;
     Ok(Scenario {
+        rules: text.version,
         handles: text.handles,
         table: text.table,
         idle: text.idle,

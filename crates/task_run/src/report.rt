@@ -15,7 +15,7 @@ ghost use Rattle.machine_rules.specs.Texts.{text};
 use crate::lower::read_scenario;
 use crate::scenario::Scenario;
 use crate::script::ScriptMain;
-use machine_data::{IdleLine, NoMemory};
+use machine_data::{IdleLine, NoMemory, Version};
 use std::alloc::{AllocError, Global};
 use task_loop::{NoticeList, Outcome, Trace, run_concurrent};
 use task_store::{ScriptedHost, Store};
@@ -32,18 +32,19 @@ pub struct Report {
     pub store: Store<(), ScriptedHost>,
 }
 
-/// Makes a store for a run of a scenario: with this host's value, this many instances, so many handles that may be live at once (at
-/// most 268,435,455), and room for so many entries. It is concurrent, nothing runs on it, and nobody is told of its groups.
+/// Makes a store for a run of a scenario: with this host's value, these rules, this many instances, so many handles that may be live
+/// at once (at most 268,435,455), and room for so many entries. It is concurrent, nothing runs on it, and nobody is told of its groups.
 pub fn new_store<T: Drop, H: Drop>(
     alloc: Global,
     value: T,
+    rules: Version,
     instances: usize,
     handles: u32,
     table: u32,
 ) -> Result<Store<T, H>, NoMemory>
     requires instances { instances ≤ 4294967295 }
     requires handles { handles ≤ 268435455 }
-    ensures state { IfOk result (λ s. s.state ≡ with_core (fresh instances handles table) nothing) }
+    ensures state { IfOk result (λ s. s.state ≡ with_core (fresh rules instances handles table) nothing) }
     ensures free { IfOk result (λ s. s.running ≡ false) }
     ensures concurrent { IfOk result (λ s. s.concurrent ≡ true) }
     ensures works { IfOk result (λ s. HoldsNone s.works) }
@@ -57,6 +58,7 @@ pub fn new_store<T: Drop, H: Drop>(
             return Err(NoMemory);
         };
     }
+    store.set_rules(rules);
     Ok(store)
 }
 
@@ -80,6 +82,7 @@ fn run(alloc: Global, scenario: &Scenario, steps: u32) -> Result<Report, NoMemor
     let mut store = new_store(
         alloc,
         (),
+        scenario.rules,
         scenario.component.instances.len(),
         scenario.handles,
         scenario.table,

@@ -1,4 +1,4 @@
-use machine_data::{Component, IdleLine, Operand, Seq};
+use machine_data::{Component, IdleLine, Operand, Seq, Version};
 use task_loop::Func;
 
 /// The names that a text gives to an instance and its exports.
@@ -32,6 +32,8 @@ pub enum MainOp {
 /// A scenario: what a text says, in the order of its lines.
 #[derive(Drop)]
 pub struct Scenario {
+    /// By which rules it is run: those of `scenario 1` or of `scenario 2`.
+    pub rules: Version,
     /// How many handles may be live at once, at most 268,435,455.
     pub handles: u32,
     /// How many entries the resource table may have, at most 1,000,000.

@@ -1,4 +1,7 @@
 -- The first states of a store: its limits, and its instances one by one.
+use Rattle.core_picks.specs.Rules.{with_version}
+use Rattle.machine_data.specs.declared.scenario.Version.TheVariants as version
+use Rattle.machine_data.specs.declared.scenario.Version.{Version}
 use Rattle.std.proofs.Common.{arith, refl, suc, zero, ℕ, ◌≡◌, ◌≤◌, ◌∙◌}
 use Rattle.std.specs.Prelude.{None}
 use Rattle.core_makes.specs.Instances.{with_instance}
@@ -7,6 +10,7 @@ use Rattle.machine_data.proofs.MapLemmas.{get-insert_other}
 use Rattle.machine_data.proofs.SizeLemmas.{size-empty, size-insert_new}
 use Rattle.machine_data.specs.Core.{filled, fresh, untouched}
 use Rattle.machine_data.specs.Maps.{get, get-empty, size}
+use Rattle.machine_data.specs.declared.records.Call.{Call}
 
 module _ {X : Type 0} (x : X) where
   past_filled : (n q : ℕ) → n ≤ q → get (filled x n) q ≡ None
@@ -21,16 +25,26 @@ module _ {X : Type 0} (x : X) where
       omega arith
 
 -- how many instances a first state has
-pub size_fresh : (n handles capacity : ℕ) → size (fresh n handles capacity).instances ≡ n
+pub size_fresh : (v : Version) (n handles capacity : ℕ) → size (fresh v n handles capacity).instances ≡ n
 unfolding fresh
-size_fresh n handles capacity = size_filled untouched n
+size_fresh v n handles capacity = size_filled untouched n
+
+-- and that it has no call
+pub no_calls : (v : Version) (n handles capacity : ℕ) → size (fresh v n handles capacity).calls ≡ 0
+unfolding fresh
+no_calls v n handles capacity = size-empty Call
 
 -- one instance more is a first state, too
-pub fresh_more : (n handles capacity : ℕ) → with_instance (fresh n handles capacity) ≡ fresh (suc n) handles capacity
+pub fresh_more : (v : Version) (n handles capacity : ℕ) → with_instance (fresh v n handles capacity) ≡ fresh v (suc n) handles capacity
 unfolding fresh with_instance
-fresh_more n handles capacity = rw (size_filled untouched n) refl
+fresh_more v n handles capacity = rw (size_filled untouched n) refl
 
--- the limits of a new store may be set at once
-pub limits_set : (handles capacity : ℕ) → with_handle_limit handles (with_capacity capacity (fresh 0 100000 1000000)) ≡ fresh 0 handles capacity
+-- the rules and the limits of a new store may be set at once
+pub limits_set : (v : Version) (handles capacity : ℕ) → with_handle_limit handles (with_capacity capacity (with_version v (fresh version.One 0 100000 1000000))) ≡ fresh v 0 handles capacity
 unfolding fresh
-limits_set handles capacity = refl
+limits_set v handles capacity = refl
+
+-- the rules alone
+pub rules_set : (v : Version) → with_version v (fresh version.One 0 100000 1000000) ≡ fresh v 0 100000 1000000
+unfolding fresh
+rules_set v = refl

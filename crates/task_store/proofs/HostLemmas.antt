@@ -1,4 +1,5 @@
 -- The host works that a store holds, over the steps of the machine.
+use Rattle.machine_data.specs.declared.scenario.Version.{Version}
 use Rattle.std.proofs.Common.{ap, arith, inl, inr, refl, subst, sym, ⊎_elim, ◌∙◌}
 use Rattle.std.proofs.lemmas.Bool.Decides.{nat_tests}
 use Rattle.std.specs.Option.{option_map, option_map_or}
@@ -653,9 +654,9 @@ none_held : {H : Type 0} (course : H → HostDef) (kept : HostWorks H) (i : ℕ)
 none_held course kept i none = rw none refl
 
 -- it holds no host works, and its core has none
-pub new_holds : {T H G : Type 0} (course : H → HostDef) (store : Store T H G) (instances handles capacity : ℕ) → HoldsNone store.works → store.state.core ≡ fresh instances handles capacity → HoldsHosts course store
+pub new_holds : {T H G : Type 0} (course : H → HostDef) (store : Store T H G) (v : Version) (instances handles capacity : ℕ) → HoldsNone store.works → store.state.core ≡ fresh v instances handles capacity → HoldsHosts course store
 unfolding fresh
-new_holds course store instances handles capacity none core = subst (λ (s : Core). HoldsWorks (held_by course store) s) (sym core) (record {
+new_holds course store v instances handles capacity none core = subst (λ (s : Core). HoldsWorks (held_by course store) s) (sym core) (record {
   each = λ i. subst (λ (o : Option Work). HoldsAt (held_by course store i) o) (sym (get-empty {X = Work} i)) (none_held course store.works i none);
   first = get-empty {X = Work} 0;
 })

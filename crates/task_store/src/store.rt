@@ -3,6 +3,7 @@ ghost use Rattle.std.specs.Borrow.{sem};
 ghost use Rattle.store_notices.specs.Moves.{AnswersAsHook, finishes};
 ghost use Rattle.core_makes.specs.Instances.{with_instance};
 ghost use Rattle.core_counts.specs.Limits.{with_capacity, with_handle_limit};
+ghost use Rattle.core_picks.specs.Rules.{with_version};
 ghost use Rattle.machine_data.specs.Maps.{size};
 ghost use Rattle.machine_data.specs.Read.{table_use};
 ghost use Rattle.machine_data.specs.Write.{set_trapped};
@@ -18,7 +19,7 @@ ghost use Rattle.core_primitives.specs.StateView.{on_core};
 use crate::scopes::ComponentTasksNotConcurrent;
 use core_primitives::ResultPrimitives;
 use core_state::TaskCore;
-use machine_data::{NoMemory, Trap};
+use machine_data::{NoMemory, Trap, Version};
 use std::alloc::Global;
 use store_notices::tell_finishes;
 use store_works::HostWorks;
@@ -170,6 +171,14 @@ impl<T, H, G: TaskGroupHook> Store<T, H, G> {
         ensures bound { result ≤ 268435455 }
     {
         self.state.handle_limit() as usize
+    }
+
+    /// Makes these the rules by which calls of the store are run: a new store has those of version 1. No call may be in its table.
+    pub fn set_rules(&mut self, rules: Version)
+        requires { size self.old.state.core.calls ≡ 0 }
+        ensures { self.new ≡ record self.old { state = on_core (with_version rules) self.old.state } }
+    {
+        self.state.set_rules(rules);
     }
 
     /// Sets how many handles may be live at once in the store, at most 268,435,455. A lowered limit

@@ -1,4 +1,5 @@
 -- What a spawn and its abort leave of a new store.
+use Rattle.machine_data.specs.declared.scenario.Version.TheVariants as version
 use Rattle.std.proofs.Common.{arith, refl, subst, sym}
 use Rattle.std.specs.Prelude.{None, ℕ, ◌≡◌}
 use Rattle.machine_data.specs.Core.{Core, fresh}
@@ -12,14 +13,14 @@ use Rattle.machine_rules.specs.MainOps.{main_aborted}
 use Rattle.task_store.specs.Hosts.{WorksNumbered}
 use Rattle.ops_turns.specs.Turn.{given}
 
-none_at_first : (n h k : ℕ) → WorksNumbered (fresh n h k)
+none_at_first : (n h k : ℕ) → WorksNumbered (fresh version.One n h k)
 unfolding fresh
 none_at_first n h k i is = absurd (let none = get-empty {X = Work} i in cc)
 
-pub none_numbered : (s : Core) (n h k : ℕ) → s ≡ fresh n h k → WorksNumbered s
+pub none_numbered : (s : Core) (n h k : ℕ) → s ≡ fresh version.One n h k → WorksNumbered s
 none_numbered s n h k is = subst (λ (u : Core). WorksNumbered u) (sym is) (none_at_first n h k)
 
-pub given_queued : (d : HostDef) (n h k : ℕ) → given (work_queued callers.Spawn d None (fresh n h k)) ≡ 1
+pub given_queued : (d : HostDef) (n h k : ℕ) → given (work_queued callers.Spawn d None (fresh version.One n h k)) ≡ 1
 unfolding work_queued push_high add_work count_work fresh
 given_queued d n h k = refl
 

@@ -1,4 +1,5 @@
 -- An event from outside, between two drives.
+use Rattle.machine_data.specs.declared.scenario.Version.TheVariants as version
 use Rattle.store_works.specs.KeptWorks.{HeldWork}
 use Rattle.core_makes.specs.Instances.{with_instance}
 use Rattle.laws_order.specs.KeptOrder.{CanTell, StaysInOrder}
@@ -43,8 +44,8 @@ use Rattle.task_wait.specs.declared.codes.Event.TheVariants as event
 use Rattle.core_primitives.specs.StateView.{StateView, on_core, with_core}
 
 -- two instances more in a store without one
-pub two_made : with_instance (with_instance (fresh 0 100000 1000000)) ≡ fresh 2 100000 1000000
-two_made = ap (λ (u : Core). with_instance u) (fresh_more 0 100000 1000000) ∙ fresh_more 1 100000 1000000
+pub two_made : with_instance (with_instance (fresh version.One 0 100000 1000000)) ≡ fresh version.One 2 100000 1000000
+two_made = ap (λ (u : Core). with_instance u) (fresh_more version.One 0 100000 1000000) ∙ fresh_more version.One 1 100000 1000000
 
 at_most_one : (n : ℕ) → n ≡ 1 → n ≤ 1
 at_most_one n is = omega (arith, is)
@@ -52,17 +53,17 @@ at_most_one n is = omega (arith, is)
 -- one was made in a new store
 pub few_then : (s : StateView) → s ≡ nothing → size (on_core with_instance s).core.instances ≤ 1
 few_then s is = subst (λ (v : StateView). size (on_core with_instance v).core.instances ≤ 1) (sym is)
-    (at_most_one _ (ap (λ (u : Core). size u.instances) (fresh_more 0 100000 1000000) ∙ size_fresh 1 100000 1000000))
+    (at_most_one _ (ap (λ (u : Core). size u.instances) (fresh_more version.One 0 100000 1000000) ∙ size_fresh version.One 1 100000 1000000))
 
 pub none_then : (s : StateView) → s ≡ nothing → size s.core.instances ≤ 1
-none_then s is = subst (λ (v : StateView). size v.core.instances ≤ 1) (sym is) (let none = size_fresh 0 100000 1000000 in at_most_none _ none)
+none_then s is = subst (λ (v : StateView). size v.core.instances ≤ 1) (sym is) (let none = size_fresh version.One 0 100000 1000000 in at_most_none _ none)
   where
     at_most_none : (n : ℕ) → n ≡ 0 → n ≤ 1
     at_most_none n zero = omega (arith, zero)
 
 -- few numbers were given
-pub given_zero : (s : StateView) → s ≡ with_core (fresh 2 100000 1000000) nothing → given s.core ≡ 0
-given_zero s is = ap (λ (v : StateView). given v.core) is ∙ given_fresh 2 100000 1000000
+pub given_zero : (s : StateView) → s ≡ with_core (fresh version.One 2 100000 1000000) nothing → given s.core ≡ 0
+given_zero s is = ap (λ (v : StateView). given v.core) is ∙ given_fresh version.One 2 100000 1000000
 
 pub few_given : (n : ℕ) → n ≡ 0 → n ≤ 2 ^ 60
 few_given n none = omega (arith, none)

@@ -1,4 +1,5 @@
 //! Scenarios that are driven in a store with a hook.
+ghost use Rattle.machine_data.specs.declared.scenario.Version.TheVariants as versions;
 ghost use Rattle.tests_hosts.specs.Hooks.{counting};
 ghost use Rattle.std.specs.Prelude.{◌≡◌, None, false, is_ok, length, true};
 ghost use Rattle.store_works.specs.KeptWorks.{HoldsNone};
@@ -104,7 +105,7 @@ pub(crate) fn watched<'a>(
     table: u32,
     fails: u64,
 ) -> Watched<'a>
-    ensures state { result.state ≡ with_core (fresh 1 100000 table) nothing }
+    ensures state { result.state ≡ with_core (fresh versions.One 1 100000 table) nothing }
     ensures works { HoldsNone result.works }
     ensures groups { IsAsked result.state }
     ensures running { result.running ≡ false }
@@ -129,7 +130,7 @@ pub(crate) fn watched<'a>(
 fn driven(rt: &impl Abort, alloc: Global, scenario: &Scenario, store: &mut Watched<'_>) -> Outcome
     requires runnable { IsRunnable scenario.now }
     requires one { length scenario.now.component.instances ≡ 1 }
-    requires fresh { store.old.state ≡ with_core (fresh 1 100000 scenario.now.table) nothing }
+    requires fresh { store.old.state ≡ with_core (fresh versions.One 1 100000 scenario.now.table) nothing }
     requires works { HoldsNone store.old.works }
     requires groups { IsAsked store.old.state }
     requires free { store.old.running ≡ false }

@@ -16,6 +16,8 @@ mod midway;
 #[cfg(test)]
 mod refused;
 #[cfg(test)]
+mod rules;
+#[cfg(test)]
 mod spawned;
 #[cfg(test)]
 mod stopped;

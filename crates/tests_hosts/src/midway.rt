@@ -1,4 +1,5 @@
 //! Calls on a store midway in a run, which a failing hook refuses: what they answer, and what is left of the store.
+ghost use Rattle.machine_data.specs.declared.scenario.Version.TheVariants as versions;
 ghost use Rattle.store_works.specs.KeptWorks.{HoldsNone};
 ghost use Rattle.std.specs.Prelude.{◌≡◌, [], IfSome, IsSome, None, Some, false, length, true};
 ghost use Rattle.ops_state.specs.Ends.{MayEnd};
@@ -51,7 +52,7 @@ impl Drop for Midway<'_> {
 fn drive(rt: &impl Abort, alloc: Global, scenario: &Scenario, store: &mut Watched<'_>, steps: u32)
     requires runnable { IsRunnable scenario.now }
     requires one { length scenario.now.component.instances ≡ 1 }
-    requires fresh { store.old.state ≡ with_core (fresh 1 100000 1000000) nothing }
+    requires fresh { store.old.state ≡ with_core (fresh versions.One 1 100000 1000000) nothing }
     requires free { store.old.running ≡ false }
     requires works { HoldsNone store.old.works }
     requires groups { IsAsked store.old.state }

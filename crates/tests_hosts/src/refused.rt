@@ -1,4 +1,5 @@
 //! Starts that a failing hook refuses: what they answer, and what is left of the store.
+ghost use Rattle.machine_data.specs.declared.scenario.Version.TheVariants as versions;
 ghost use Rattle.std.specs.Prelude.{◌≡◌, ◌<◌, ◌^◌, IfSome, IsSome, Some, length, true};
 ghost use Rattle.task_loop.specs.LoopCalls.{callee_of};
 ghost use Rattle.machine_data.specs.Core.{fresh};
@@ -87,7 +88,7 @@ fn refuses_first(alloc: Global, scenario: &Scenario, store: &mut Watched<'_>, wa
     requires one { length scenario.now.component.instances ≡ 1 }
     requires there { IsSome (export_at scenario.now.component (callee_of F)) }
     requires params { IfSome (export_at scenario.now.component (callee_of F)) (λ e. 1 ≡ e.params) }
-    requires fresh { store.old.state ≡ with_core (fresh 1 100000 1000000) nothing }
+    requires fresh { store.old.state ≡ with_core (fresh versions.One 1 100000 1000000) nothing }
 {
     refuses(alloc, &scenario.component, store, way)
 }

@@ -1,4 +1,5 @@
 //! A work that a host spawns before a run: it is polled in the run, or aborted.
+ghost use Rattle.machine_data.specs.declared.scenario.Version.TheVariants as versions;
 ghost use Rattle.std.specs.Prelude.{◌≡◌, false, length};
 ghost use Rattle.store_works.specs.KeptWorks.{HoldsNone};
 ghost use Rattle.machine_data.specs.Core.{fresh};
@@ -23,7 +24,7 @@ use task_store::ScriptedHost;
 
 // Spawns a work in a new store, and asks that it end where `aborts` says so.
 fn spawns(rt: &impl Abort, store: &mut Watched<'_>, table: u32, aborts: bool)
-    requires fresh { store.old.state ≡ with_core (fresh 1 100000 table) nothing }
+    requires fresh { store.old.state ≡ with_core (fresh versions.One 1 100000 table) nothing }
     requires works { HoldsNone store.old.works }
     ensures order { (c : Component) (p : Turn) → CoreInOrder c p store.old.state.core → CoreInOrder c p store.new.state.core }
     ensures given { given store.new.state.core ≡ 1 }
@@ -58,7 +59,7 @@ fn driven(
 ) -> Outcome
     requires runnable { IsRunnable scenario.now }
     requires one { length scenario.now.component.instances ≡ 1 }
-    requires fresh { store.old.state ≡ with_core (fresh 1 100000 scenario.now.table) nothing }
+    requires fresh { store.old.state ≡ with_core (fresh versions.One 1 100000 scenario.now.table) nothing }
     requires works { HoldsNone store.old.works }
     requires groups { IsAsked store.old.state }
     requires free { store.old.running ≡ false }

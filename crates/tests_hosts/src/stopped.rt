@@ -1,4 +1,5 @@
 //! Runs that an error of the hook ends: the labels that they added, and what the hook was told.
+ghost use Rattle.machine_data.specs.declared.scenario.Version.TheVariants as versions;
 ghost use Rattle.std.specs.Prelude.{◌≡◌, false, length};
 ghost use Rattle.store_works.specs.KeptWorks.{HoldsNone};
 ghost use Rattle.machine_data.specs.Core.{fresh};
@@ -45,7 +46,7 @@ fn driven(
 ) -> Result<Outcome, NoMemory>
     requires runnable { IsRunnable scenario.now }
     requires one { length scenario.now.component.instances ≡ 1 }
-    requires fresh { store.old.state ≡ with_core (fresh 1 100000 scenario.now.table) nothing }
+    requires fresh { store.old.state ≡ with_core (fresh versions.One 1 100000 scenario.now.table) nothing }
     requires works { HoldsNone store.old.works }
     requires groups { IsAsked store.old.state }
     requires free { store.old.running ≡ false }
@@ -68,7 +69,7 @@ fn polled(
 ) -> Result<RunPoll, TaskError>
     requires runnable { IsRunnable scenario.now }
     requires one { length scenario.now.component.instances ≡ 1 }
-    requires fresh { store.old.state ≡ with_core (fresh 1 100000 scenario.now.table) nothing }
+    requires fresh { store.old.state ≡ with_core (fresh versions.One 1 100000 scenario.now.table) nothing }
     requires works { HoldsNone store.old.works }
     requires groups { IsAsked store.old.state }
     requires free { store.old.running ≡ false }

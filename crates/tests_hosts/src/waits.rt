@@ -1,4 +1,5 @@
 //! A waiter is woken from outside, between two drives.
+ghost use Rattle.machine_data.specs.declared.scenario.Version.TheVariants as versions;
 ghost use Rattle.std.specs.Prelude.{◌≡◌, ◌≤◌, ◌<◌, None, false, length, true, ℕ};
 ghost use Rattle.store_works.specs.KeptWorks.{HoldsNone};
 ghost use Rattle.core_makes.specs.Instances.{with_instance};
@@ -67,7 +68,7 @@ fn add_instance(rt: &impl Abort, store: &mut Store<(), ScriptedHost>)
 
 // A new store with two instances.
 fn store_of_two(rt: &impl Abort, alloc: Global) -> Store<(), ScriptedHost>
-    ensures state { result.state ≡ with_core (fresh 2 100000 1000000) nothing }
+    ensures state { result.state ≡ with_core (fresh versions.One 2 100000 1000000) nothing }
     ensures works { HoldsNone result.works }
     ensures groups { IsAsked result.state }
 {
@@ -87,7 +88,7 @@ fn idles(
 ) -> RunConcurrent
     requires runnable { IsRunnable scenario.now }
     requires two { length scenario.now.component.instances ≡ 2 }
-    requires fresh { store.old.state ≡ with_core (fresh 2 100000 1000000) nothing }
+    requires fresh { store.old.state ≡ with_core (fresh versions.One 2 100000 1000000) nothing }
     requires works { HoldsNone store.old.works }
     requires groups { IsAsked store.old.state }
     ensures turn { turn_of result.last ≡ turns.Take false }
@@ -136,7 +137,7 @@ fn goes_on(
 ) -> usize
     requires runnable { IsRunnable scenario.now }
     requires two { length scenario.now.component.instances ≡ 2 }
-    requires fresh { store.old.state ≡ with_core (fresh 2 100000 1000000) nothing }
+    requires fresh { store.old.state ≡ with_core (fresh versions.One 2 100000 1000000) nothing }
     requires works { HoldsNone store.old.works }
     requires groups { IsAsked store.old.state }
 {

@@ -1,4 +1,5 @@
 -- In a store in which nothing was made few numbers were given.
+use Rattle.machine_data.specs.declared.scenario.Version.TheVariants as version
 use Rattle.store_works.specs.KeptWorks.{HoldsNone}
 use Rattle.std.proofs.Common.{ap, arith, subst}
 use Rattle.std.specs.Prelude.{is_some, true, ◌<◌, ◌^◌, ◌≡◌}
@@ -23,4 +24,4 @@ unfolding fresh
 none_numbered s is i there = absurd (let e = subst (λ (v : StateView). is_some (get v.core.works i) ≡ true) is there in let n = get-empty {X = Work} i in grind (arith, e, n))
 
 pub none_held : {T H G : Type 0} (course : H → HostDef) (store : Store T H G) → store.state ≡ nothing → HoldsNone store.works → HoldsHosts course store
-none_held course store state works = new_holds course store 0 100000 1000000 works (ap (λ (v : StateView). v.core) state)
+none_held course store state works = new_holds course store version.One 0 100000 1000000 works (ap (λ (v : StateView). v.core) state)

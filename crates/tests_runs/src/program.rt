@@ -87,8 +87,43 @@ fn reports(rt: &impl Abort, alloc: Global, text: &[u8], steps: u32, wanted: &[u8
     assert!(rt; text.as_slice() == wanted);
 }
 
+// Under `scenario 2` a cancel reaches a stackful call that waits,
+const CANCELLED: &[u8] =
+    b"scenario 2\nhandles 100000\ntable 1000000\nidle trap\ninstance a\nexport f stackful 0\nset_new r3\nwait r4 r3\ntask_cancel\ninstance b\nexport g callback 0\ncall r3 r8 a.f\ncancel_sync r4 1\ndrop 1\nret r4\nmain\nstart b.g\nfinish 1 r0\nanswer r0\nend\n";
+
+const CANCELLED_REPORT: &[u8] =
+    b"main start 1 thread 1\nmain pends\ntake high thread 1\nthread 1 calls thread 2\nmain pends\ntake switch thread 2\nthread 2 set_new 1\nthread 2 pauses\nmain pends\ntake switch thread 1\nthread 1 call 17\nthread 1 pauses\nmain pends\ntake switch thread 2\nthread 2 wait 6 0 0\nthread 2 task_cancel\nthread 2 exit\nmain pends\ntake switch thread 1\nthread 1 cancel_sync 4\nthread 1 drop\nthread 1 ret 4\nthread 1 exit\nmain finish 1 = 4\nmain answer 4\ndone 4\n";
+
+// and a second one of a call that goes on is a trap.
+const CANCELLED_TWICE: &[u8] =
+    b"scenario 2\nhandles 100000\ntable 1000000\nidle trap\ninstance a\nexport f callback 0\nset_new r3\ncb_wait r3\nreact\ncb_wait r3\ninstance b\nexport g callback 0\ncall r3 r8 a.f\ncancel r4 1\ncancel r5 1\nmain\nstart b.g\nfinish 1 r0\nanswer r0\nend\n";
+
+const CANCELLED_TWICE_REPORT: &[u8] =
+    b"main start 1 thread 1\nmain pends\ntake high thread 1\nthread 1 calls thread 2\nmain pends\ntake switch thread 2\nthread 2 set_new 1\nthread 2 cb_wait\nmain pends\ntake switch thread 1\nthread 1 call 17\nthread 1 pauses\nmain pends\ntake switch thread 2 event 6 0 0\nthread 2 cb_wait\nmain pends\ntake switch thread 1\nthread 1 cancel 4294967295\ntrap thread 1 5\ntrap 5\n";
+
+// Two threads wait on one set, and the one that was made last waits first. Under `scenario 2` that one is woken,
+const ARRIVAL: &[u8] =
+    b"scenario 2\nhandles 100000\ntable 1000000\nidle trap\nhost h polls 1 value 5\ninstance a\nthread 0\nwait r3 1\nexport g stackful 0\nset_new r3\ncall r4 r8 h\nthread_new r5 0 0\nthread_new r6 0 0\nresume_later r6\nresume_later r5\nyield\njoin 2 1\nmain\nstart a.g\nfinish 1 r0\nanswer r0\nend\n";
+
+const ARRIVAL_REPORT: &[u8] =
+    b"main start 1 thread 1\nmain pends\ntake high thread 1\nthread 1 set_new 1\nthread 1 call 33 future 1\nthread 1 thread_new 2 thread 2\nthread 1 thread_new 3 thread 3\nthread 1 resume_later\nthread 1 resume_later\nthread 1 pauses\nmain pends\ntake high push 1\nmain pends\nfuture 1 ends\ntake high host 1\nmain pends\ntake low thread 3\nthread 3 pauses\nmain pends\ntake low thread 2\nthread 2 pauses\nmain pends\ntake low thread 1\nthread 1 yield\nthread 1 join wakes 3\nthread 1 exit\nmain pends\ntake high thread 3\nthread 3 wait 1 2 2\nthread 3 exit\nmain pends\ndeadlock 15\ndeadlock 15\n";
+
+// and under `scenario 1` the other one.
+const PLACES: &[u8] =
+    b"scenario 1\nhandles 100000\ntable 1000000\nidle trap\nhost h polls 1 value 5\ninstance a\nthread 0\nwait r3 1\nexport g stackful 0\nset_new r3\ncall r4 r8 h\nthread_new r5 0 0\nthread_new r6 0 0\nresume_later r6\nresume_later r5\nyield\njoin 2 1\nmain\nstart a.g\nfinish 1 r0\nanswer r0\nend\n";
+
+const PLACES_REPORT: &[u8] =
+    b"main start 1 thread 1\nmain pends\ntake high thread 1\nthread 1 set_new 1\nthread 1 call 33 future 1\nthread 1 thread_new 2 thread 2\nthread 1 thread_new 3 thread 3\nthread 1 resume_later\nthread 1 resume_later\nthread 1 pauses\nmain pends\ntake high push 1\nmain pends\nfuture 1 ends\ntake high host 1\nmain pends\ntake low thread 3\nthread 3 pauses\nmain pends\ntake low thread 2\nthread 2 pauses\nmain pends\ntake low thread 1\nthread 1 yield\nthread 1 join wakes 2\nthread 1 exit\nmain pends\ntake high thread 2\nthread 2 wait 1 2 2\nthread 2 exit\nmain pends\ndeadlock 15\ndeadlock 15\n";
+
+// Under `scenario 2` calls go on in the order in which they were held.
+const RELEASE: &[u8] =
+    b"scenario 2\nhandles 100\ntable 100\nidle trap\ninstance a\nexport up callback 0\nbp_inc\nret 0\nexit\nexport f callback 1\nret r0\nexit\nexport down sync 0\nbp_dec\nmain\nstart a.up\nstart a.f 5\nfinish 1 r0\nstart a.f 7\nstart a.down\nfinish 3 r1\nfinish 2 r2\nanswer r1\nend\n";
+
+const RELEASE_REPORT: &[u8] =
+    b"main start 1 thread 1\nmain start 2 thread 2\nmain pends\ntake high thread 1\nthread 1 bp_inc\nthread 1 ret 0\nthread 1 exit\nmain finish 1 = 0\nmain start 3 thread 3\nmain start 4 thread 4\nmain pends\ntake high thread 2 held\nmain pends\ntake high thread 3 held\nmain pends\ntake high thread 4\nthread 4 bp_dec\nthread 4 exit\nmain pends\ntake high thread 2\nthread 2 ret 5\nthread 2 exit\nmain pends\ntake high thread 3\nthread 3 ret 7\nthread 3 exit\nmain finish 3 = 7\nmain finish 2 = 5\nmain answer 7\ndone 7\n";
+
 #[test]
-fn runs_of_the_first_path_print_their_reports(rt: HostRuntime) {
+fn texts_of_both_versions_print_their_reports(rt: HostRuntime) {
     reports(&rt, rt.alloc(), ONE_CALL, 7, REPORT);
     reports(
         &rt,
@@ -111,6 +146,17 @@ fn runs_of_the_first_path_print_their_reports(rt: HostRuntime) {
         100,
         b"main start 1 thread 1\nmain pends\ntake high thread 1\nthread 1 ret 7\ntrap thread 1 1\ntrap 1\n",
     );
+    reports(&rt, rt.alloc(), CANCELLED, 100, CANCELLED_REPORT);
+    reports(
+        &rt,
+        rt.alloc(),
+        CANCELLED_TWICE,
+        100,
+        CANCELLED_TWICE_REPORT,
+    );
+    reports(&rt, rt.alloc(), ARRIVAL, 100, ARRIVAL_REPORT);
+    reports(&rt, rt.alloc(), PLACES, 100, PLACES_REPORT);
+    reports(&rt, rt.alloc(), RELEASE, 100, RELEASE_REPORT);
 }
 
 // Example texts of limits that refuse.

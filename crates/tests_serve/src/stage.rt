@@ -1,4 +1,5 @@
 //! What the tests run: a component of one export, a store for it, and a main that waits.
+ghost use Rattle.machine_data.specs.declared.scenario.Version.TheVariants as versions;
 ghost use Rattle.std.specs.Prelude.{◌≡◌, IfOk, length};
 ghost use Rattle.store_works.specs.KeptWorks.{HoldsNone};
 ghost use Rattle.tests_serve.specs.Stage.{IsReady, TakesOne};
@@ -73,7 +74,7 @@ pub(crate) fn component(rt: &impl Abort, alloc: Global) -> Component
 
 // A new store with one instance.
 fn new_store(rt: &impl Abort, alloc: Global) -> Store<(), ScriptedHost>
-    ensures state { result.state ≡ with_core (fresh 1 100000 1000000) nothing }
+    ensures state { result.state ≡ with_core (fresh versions.One 1 100000 1000000) nothing }
     ensures works { HoldsNone result.works }
     ensures groups { IsAsked result.state }
 {

@@ -1,4 +1,5 @@
 -- A component of one export, and a store in which its one instance was made.
+use Rattle.machine_data.specs.declared.scenario.Version.TheVariants as version
 use Rattle.std.proofs.Common.{ap, arith, refl, subst, sym, ◌+◌, ◌∙◌}
 use Rattle.std.specs.Prelude.{[], Ok, Option, Some, None, length, option_map, ℕ, ◌≡◌}
 use Rattle.machine_data.specs.Core.{Core, Unscripted, fresh}
@@ -39,14 +40,14 @@ turn_of (turn.Run k) n e = cc
 turn_of p n e = absurd (cc)
 
 -- the new store is in order at main's turn
-pub opens : (c : Component) → HasPlainExports c → length c.instances ≡ 1 → (s : StateView) → s ≡ with_core (fresh 1 100000 1000000) nothing → CoreInOrder c turn.Main s.core
-opens c plain one s is = subst (λ (u : StateView). CoreInOrder c turn.Main u.core) (sym is) (core_in_order_fresh c (codes_of c plain) 1 100000 1000000 (omega (arith, one)))
+pub opens : (c : Component) → HasPlainExports c → length c.instances ≡ 1 → (s : StateView) → s ≡ with_core (fresh version.One 1 100000 1000000) nothing → CoreInOrder c turn.Main s.core
+opens c plain one s is = subst (λ (u : StateView). CoreInOrder c turn.Main u.core) (sym is) (core_in_order_fresh c (codes_of c plain) version.One 1 100000 1000000 (omega (arith, one)))
 
 -- few numbers were given in it
-pub opens_given : (s : StateView) → s ≡ with_core (fresh 1 100000 1000000) nothing → given s.core ≡ 0
-opens_given s is = ap (λ (u : StateView). given u.core) is ∙ given_fresh 1 100000 1000000
+pub opens_given : (s : StateView) → s ≡ with_core (fresh version.One 1 100000 1000000) nothing → given s.core ≡ 0
+opens_given s is = ap (λ (u : StateView). given u.core) is ∙ given_fresh version.One 1 100000 1000000
 
-pub opens_current : (s : StateView) → s ≡ with_core (fresh 1 100000 1000000) nothing → running_of s ≡ None
+pub opens_current : (s : StateView) → s ≡ with_core (fresh version.One 1 100000 1000000) nothing → running_of s ≡ None
 opens_current s is = ap (option_map (λ k. thread_of s k)) (ap (λ (u : StateView). u.current) is)
 
 -- the store after a start: two numbers more were given

@@ -1,3 +1,4 @@
+ghost use Rattle.machine_data.specs.declared.scenario.Version.TheVariants as versions;
 ghost use Rattle.std.specs.Prelude.{◌≡◌, ◌≤◌, true, IfOk, None, length, IsSome, IfSome};
 ghost use Rattle.std.specs.List.{list_all};
 ghost use Rattle.store_works.specs.KeptWorks.{HoldsNone};
@@ -103,7 +104,7 @@ pub(crate) fn component(rt: &impl Abort, alloc: Global) -> Component
 
 // A new store with one instance.
 pub(crate) fn new_store(rt: &impl Abort, alloc: Global) -> Store<(), ScriptedHost>
-    ensures state { result.state ≡ with_core (fresh 1 100000 1000000) nothing }
+    ensures state { result.state ≡ with_core (fresh versions.One 1 100000 1000000) nothing }
     ensures works { HoldsNone result.works }
     ensures groups { IsAsked result.state }
 {

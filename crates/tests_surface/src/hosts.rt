@@ -1,4 +1,5 @@
 //! A host's own type of works.
+ghost use Rattle.machine_data.specs.declared.scenario.Version.TheVariants as versions;
 ghost use Rattle.std.specs.Prelude.{◌≡◌, ◌≤◌, false, length};
 ghost use Rattle.store_works.specs.KeptWorks.{HoldsNone};
 ghost use Rattle.machine_data.specs.Core.{fresh};
@@ -74,7 +75,7 @@ impl FromHost for Counting {
 
 // A new store with one instance, whose value counts.
 fn new_store(rt: &impl Abort, alloc: Global) -> Store<u64, WatchedWork<Counting>>
-    ensures state { result.state ≡ with_core (fresh 1 100000 1000000) nothing }
+    ensures state { result.state ≡ with_core (fresh versions.One 1 100000 1000000) nothing }
     ensures works { HoldsNone result.works }
     ensures groups { IsAsked result.state }
     ensures running { result.running ≡ false }
@@ -95,7 +96,7 @@ fn drive(
 ) -> Outcome
     requires runnable { IsRunnable scenario.now }
     requires one { length scenario.now.component.instances ≡ 1 }
-    requires fresh { store.old.state ≡ with_core (fresh 1 100000 1000000) nothing }
+    requires fresh { store.old.state ≡ with_core (fresh versions.One 1 100000 1000000) nothing }
     requires works { HoldsNone store.old.works }
     requires groups { IsAsked store.old.state }
     requires free { store.old.running ≡ false }

@@ -1,4 +1,5 @@
 //! The calls of an instance, each by a thread of a scenario that was run so far.
+ghost use Rattle.machine_data.specs.declared.scenario.Version.TheVariants as versions;
 ghost use Rattle.store_works.specs.KeptWorks.{HoldsNone};
 ghost use Rattle.std.specs.Prelude.{◌≡◌, ◌<◌, ◌≤◌, IfSome, IsSome, None, Some, [], false, length, true, ◌^◌};
 ghost use Rattle.ops_state.specs.Named.{IsLive};
@@ -78,7 +79,7 @@ impl Drop for Midway {
 
 // A store with two instances.
 fn new_store(rt: &impl Abort, alloc: Global) -> Store<(), ScriptedHost>
-    ensures state { result.state ≡ with_core (fresh 2 100000 1000000) nothing }
+    ensures state { result.state ≡ with_core (fresh versions.One 2 100000 1000000) nothing }
     ensures free { result.running ≡ false }
     ensures works { HoldsNone result.works }
     ensures groups { IsAsked result.state }
@@ -103,7 +104,7 @@ fn drive(
 )
     requires runnable { IsRunnable scenario.now }
     requires two { length scenario.now.component.instances ≡ 2 }
-    requires fresh { store.old.state ≡ with_core (fresh 2 100000 1000000) nothing }
+    requires fresh { store.old.state ≡ with_core (fresh versions.One 2 100000 1000000) nothing }
     requires free { store.old.running ≡ false }
     requires works { HoldsNone store.old.works }
     requires groups { IsAsked store.old.state }

@@ -1,4 +1,5 @@
 //! Polls of a run.
+ghost use Rattle.machine_data.specs.declared.scenario.Version.TheVariants as versions;
 ghost use Rattle.std.specs.Prelude.{◌≡◌, ◌*◌, ◌+◌, ◌≤◌, IfSome, IsSome, None, length};
 ghost use Rattle.store_works.specs.KeptWorks.{HoldsNone};
 ghost use Rattle.task_loop.specs.LoopCalls.{callee_of};
@@ -88,7 +89,7 @@ fn ran_by_steps(
 ) -> (u32, u64)
     requires runnable { IsRunnable scenario.now }
     requires one { length scenario.now.component.instances ≡ 1 }
-    requires fresh { store.old.state ≡ with_core (fresh 1 100000 1000000) nothing }
+    requires fresh { store.old.state ≡ with_core (fresh versions.One 1 100000 1000000) nothing }
     requires works { HoldsNone store.old.works }
     requires groups { IsAsked store.old.state }
 {

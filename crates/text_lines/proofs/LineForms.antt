@@ -1,11 +1,9 @@
 -- How a keyword and the tokens after it spell a value, by how many tokens there are.
-use Rattle.std.proofs.Common.{◌≡◌, ℕ, Bool, true, ◌&&◌, cond, eqb, List, [], ◌∷◌, length, map, Option, Some, None, refl, sym, ap, subst, ◌∙◌, lit<}
+use Rattle.std.proofs.Common.{◌≡◌, ℕ, Bool, true, ◌&&◌, eqb, List, [], ◌∷◌, length, map, Option, Some, refl, sym, ap, subst, ◌∙◌, lit<}
 use Rattle.std.specs.Prelude.{nat_le}
 use Rattle.std.specs.List.{list_all}
-use Rattle.std.specs.Str.{bytes_eq}
 use Rattle.std.proofs.lemmas.Bool.{and_parts, and_from, eqb-true}
 use Rattle.std.proofs.lemmas.List.{nil_from_length}
-use Rattle.std.proofs.lemmas.Slice.Eq.{bytes_eq-Decides}
 use Rattle.machine_data.specs.declared.op.Operand.{Operand}
 use Rattle.text_lines.specs.Tokens.{◌>>=◌, one_of, two_of, three_of, four_of, each_at}
 use Rattle.text_lines.specs.LineTokens.{register_token, operand_token}
@@ -68,15 +66,6 @@ no_tokens tokens fits kw x spelled fit ws l e =
     let g = guarded (eqb (length ws) 0) x l e in
     let none : ws ≡ [] = nil_from_length ws (eqb-true _ _ g.0) in
     subst (Spells tokens fits kw ws) g.1 (rw none (sym spelled), fit)
-
--- one fixed token, as `1`
-pub fixed_token : {L : Type 0} (tokens : L → List (List ℕ)) (fits : L → Bool) (kw text : List ℕ) (x : L) → tokens x ≡ kw ∷ text ∷ [] → fits x ≡ true
-    → (ws : List (List ℕ)) (l : L) → (one_of ws >>= λ a. cond (bytes_eq a text) (Some x) None) ≡ Some l → Spells tokens fits kw ws l
-fixed_token tokens fits kw text x spelled fit ws l e =
-    let p = bind_some (one_of ws) (λ a. cond (bytes_eq a text) (Some x) None) l e in
-    let g = guarded (bytes_eq p.0 text) x l p.2 in
-    let same : p.0 ≡ text = (bytes_eq-Decides p.0 text).0 g.0 in
-    subst (Spells tokens fits kw ws) g.1 (ap (λ (v : List (List ℕ)). kw ∷ v) (one_takes ws p.0 p.1 ∙ ap (λ (w : List ℕ). w ∷ []) same) ∙ sym spelled, fit)
 
 -- one token of a kind
 pub one_token : {L A : Type 0} (tokens : L → List (List ℕ)) (fits : L → Bool) (kw : List ℕ) {a : List ℕ → Option A} {wa : A → List ℕ} {fa : A → Bool} (ra : Reads a wa fa)

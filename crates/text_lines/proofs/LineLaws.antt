@@ -34,8 +34,8 @@ use Rattle.text_lines.specs.Line.{head_after, never_after, fail_after, value_aft
 use Rattle.text_lines.specs.LineTokens.{kind_token, title_tokens, handles_tokens, table_tokens, idle_tokens, work_tokens, host_tokens, instance_tokens, export_tokens, react_tokens, thread_tokens, bad_tokens, data_op_tokens, task_op_tokens, set_op_tokens, thread_op_tokens, plain_op_tokens, main_tokens, answer_tokens, aborter_tokens, end_tokens}
 use Rattle.text_lines.specs.Fits.{operand_fits, handles_fit, table_fits, work_fits, slot_fits, data_op_fits, task_op_fits, set_op_fits, thread_op_fits, plain_op_fits}
 use Rattle.text_lines.proofs.Numbers.{guarded}
-use Rattle.text_lines.proofs.TokenLaws.{bind_some, some_is, numbers, bounded, idles, kinds, operands}
-use Rattle.text_lines.proofs.LineForms.{Spells, Tails, one_takes, three_take, four_take, three_tokens, no_tokens, fixed_token, one_token, as_line, with_tail, one_tail, operand_tail, target_tail, each_take, each_again}
+use Rattle.text_lines.proofs.TokenLaws.{bind_some, some_is, numbers, bounded, idles, kinds, operands, versions}
+use Rattle.text_lines.proofs.LineForms.{Spells, Tails, one_takes, three_take, four_take, three_tokens, no_tokens, one_token, as_line, with_tail, one_tail, operand_tail, target_tail, each_take, each_again}
 use Rattle.text_lines.proofs.OpLaws.{data_op_takes, task_op_takes, set_op_takes, thread_op_takes, op_again}
 use Rattle.text_lines.proofs.CallLaws.{named_call_tokens, named_call_fits, call_takes, call_sync_takes, call_again, named_tokens, named_fits, main_op_takes, named_again}
 
@@ -55,27 +55,27 @@ keyword_takes w k e = sym ((bytes_eq-Decides (keyword_text k) w).0 (find_passes 
 -- ---- The head
 
 abbrev pub head_line_tokens : HeadLine → List (List ℕ)
-head_line_tokens head_line.Title = title_tokens
+head_line_tokens (head_line.Title v) = title_tokens v
 head_line_tokens (head_line.Handles n) = handles_tokens n
 head_line_tokens (head_line.Table n) = table_tokens n
 head_line_tokens (head_line.Idle i) = idle_tokens i
 
 abbrev pub head_line_fits : HeadLine → Bool
-head_line_fits head_line.Title = true
+head_line_fits (head_line.Title v) = true
 head_line_fits (head_line.Handles n) = handles_fit n
 head_line_fits (head_line.Table n) = table_fits n
 head_line_fits (head_line.Idle i) = true
 
 head_takes : (k : HeadKeyword) (ws : List (List ℕ)) (l : HeadLine) → head_after k ws ≡ Some l → Spells head_line_tokens head_line_fits (head_keyword k) ws l
 unfolding head_after
-head_takes head.Scenario ws l e = fixed_token head_line_tokens head_line_fits (codes "scenario") (codes "1") head_line.Title refl refl ws l e
+head_takes head.Scenario ws l e = one_token head_line_tokens head_line_fits (codes "scenario") versions head_line.Title (λ x. refl) (λ x. refl) ws l e
 head_takes head.Handles ws l e = one_token head_line_tokens head_line_fits (codes "handles") (bounded 268435455 (lit< tt)) head_line.Handles (λ x. refl) (λ x. refl) ws l e
 head_takes head.Table ws l e = one_token head_line_tokens head_line_fits (codes "table") (bounded 1000000 (lit< tt)) head_line.Table (λ x. refl) (λ x. refl) ws l e
 head_takes head.Idle ws l e = one_token head_line_tokens head_line_fits (codes "idle") idles head_line.Idle (λ x. refl) (λ x. refl) ws l e
 
 head_again : (l : HeadLine) → head_line_fits l ≡ true → line_at (head_line_tokens l) ≡ Some (line.Head l)
 unfolding line_at line_after head_after one_of
-head_again head_line.Title fits = refl
+head_again (head_line.Title v) fits = rw (versions.again v refl) refl
 head_again (head_line.Handles n) fits = rw ((bounded 268435455 (lit< tt)).again n fits) refl
 head_again (head_line.Table n) fits = rw ((bounded 1000000 (lit< tt)).again n fits) refl
 head_again (head_line.Idle i) fits = rw (idles.again i refl) refl

@@ -6,14 +6,16 @@ use Rattle.std.specs.Str.{all_ascii_digits, bytes_eq}
 use Rattle.std.proofs.lemmas.Fmt.{digits_decimal}
 use Rattle.std.proofs.lemmas.Bool.{and_parts, eqb-true, ne_eqb, le-leb, leb-true, lt-ltb, ltb-true}
 use Rattle.std.proofs.lemmas.Slice.Eq.{bytes_eq-Decides}
+use Rattle.machine_data.specs.declared.scenario.Version.TheVariants as version
+use Rattle.machine_data.specs.declared.scenario.Version.{Version}
 use Rattle.machine_data.specs.declared.op.Operand.{Operand}
 use Rattle.machine_data.specs.declared.op.Operand.TheVariants.{Number, Register}
 use Rattle.machine_data.specs.declared.scenario.IdleLine.{IdleLine}
 use Rattle.machine_data.specs.declared.scenario.IdleLine.TheVariants as idle
 use Rattle.machine_data.specs.declared.component.ExportKind.{ExportKind}
 use Rattle.machine_data.specs.declared.component.ExportKind.TheVariants as kind
-use Rattle.text_lines.specs.Tokens.{◌>>=◌, number_at, bounded_at, register_up_to, register_at, operand_at, or_number, idle_at, kind_at}
-use Rattle.text_lines.specs.LineTokens.{register_token, operand_token, idle_token, kind_token}
+use Rattle.text_lines.specs.Tokens.{◌>>=◌, number_at, bounded_at, register_up_to, register_at, operand_at, or_number, version_at, idle_at, kind_at}
+use Rattle.text_lines.specs.LineTokens.{register_token, operand_token, version_token, idle_token, kind_token}
 use Rattle.text_lines.specs.Fits.{number_fits, register_fits, operand_fits}
 use Rattle.text_lines.proofs.Numbers.{digits_model, guarded, number_takes, number_again}
 
@@ -120,6 +122,20 @@ always x = true
 first_token : {A : Type 0} (token : A → List ℕ) (w text : List ℕ) (y x : A) (other : Option A) (b : Bool) → bytes_eq w text ≡ b → text ≡ token y → cond b (Some y) other ≡ Some x → (other ≡ Some x → w ≡ token x) → w ≡ token x
 first_token token w text y x other true h same e later = (bytes_eq-Decides w text).0 h ∙ same ∙ ap token (some_is y x e)
 first_token token w text y x other false h same e later = later e
+
+version_takes : (w : List ℕ) (v : Version) → version_at w ≡ Some v → w ≡ version_token v
+unfolding version_at
+version_takes w v e =
+    first_token version_token w (codes "1") version.One v _ _ refl refl e (λ e.
+    first_token version_token w (codes "2") version.Two v None _ refl refl e (λ e. absurd cc))
+
+version_again : (v : Version) → version_at (version_token v) ≡ Some v
+unfolding version_at
+version_again version.One = refl
+version_again version.Two = refl
+
+pub versions : Reads version_at version_token always
+versions = record { takes = λ w v e. (version_takes w v e, refl); again = λ v _. version_again v }
 
 idle_takes : (w : List ℕ) (i : IdleLine) → idle_at w ≡ Some i → w ≡ idle_token i
 unfolding idle_at

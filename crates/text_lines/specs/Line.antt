@@ -47,7 +47,7 @@ use Rattle.text_lines.specs.declared.line.NamedOp.TheVariants as named
 use Rattle.text_lines.specs.declared.line.Line.{Line}
 use Rattle.text_lines.specs.declared.line.Line.TheVariants as line
 use Rattle.text_lines.specs.Keyword.{keyword_at}
-use Rattle.text_lines.specs.Tokens.{◌>>=◌, number_at, bounded_at, register_up_to, register_at, operand_at, idle_at, kind_at, is_name, one_of, two_of, three_of, four_of, each_at}
+use Rattle.text_lines.specs.Tokens.{◌>>=◌, number_at, bounded_at, register_up_to, register_at, operand_at, version_at, idle_at, kind_at, is_name, one_of, two_of, three_of, four_of, each_at}
 
 -- what no tokens after a keyword complete
 abbrev pub alone : {L : Type 0} → L → List (List ℕ) → Option L
@@ -58,7 +58,8 @@ alone l tokens = if length tokens == 0 then Some l else None
 unfoldable pub head_after : HeadKeyword → List (List ℕ) → Option HeadLine
 head_after head.Scenario tokens = do
   a ← one_of tokens
-  if bytes_eq a (codes "1") then Some head_line.Title else None
+  v ← version_at a
+  Some (head_line.Title v)
 head_after head.Handles tokens = do
   a ← one_of tokens
   n ← bounded_at 268435455 a

@@ -17,6 +17,8 @@ use Rattle.machine_data.specs.declared.op.CallOp.TheVariants as call_op
 use Rattle.machine_data.specs.declared.op.ThreadOp.{ThreadOp}
 use Rattle.machine_data.specs.declared.op.ThreadOp.TheVariants as thread_op
 use Rattle.machine_data.specs.declared.scenario.IdleLine.{IdleLine}
+use Rattle.machine_data.specs.declared.scenario.Version.TheVariants as version
+use Rattle.machine_data.specs.declared.scenario.Version.{Version}
 use Rattle.machine_data.specs.declared.scenario.IdleLine.TheVariants as idle
 use Rattle.text_lines.specs.declared.line.HostWork.{HostWork}
 use Rattle.text_lines.specs.declared.line.HostWork.TheVariants as work
@@ -29,6 +31,10 @@ register_token r = 114 ∷ decimal r
 abbrev pub operand_token : Operand → List ℕ
 operand_token (Number n) = decimal n
 operand_token (Register r) = register_token r
+
+abbrev pub version_token : Version → List ℕ
+version_token version.One = codes "1"
+version_token version.Two = codes "2"
 
 abbrev pub idle_token : IdleLine → List ℕ
 idle_token idle.Trap = codes "trap"
@@ -46,8 +52,8 @@ callee_token instance export = instance ++ 46 ∷ export
 
 -- ---- The head
 
-abbrev pub title_tokens : List (List ℕ)
-title_tokens = codes "scenario" ∷ codes "1" ∷ []
+abbrev pub title_tokens : Version → List (List ℕ)
+title_tokens v = codes "scenario" ∷ version_token v ∷ []
 
 abbrev pub handles_tokens : ℕ → List (List ℕ)
 handles_tokens n = codes "handles" ∷ decimal n ∷ []

@@ -7,6 +7,8 @@ use Rattle.std.specs.Str.Parse.{digits_value}
 use Rattle.machine_data.specs.declared.op.Operand.{Operand}
 use Rattle.machine_data.specs.declared.op.Operand.TheVariants.{Number, Register}
 use Rattle.machine_data.specs.declared.scenario.IdleLine.{IdleLine}
+use Rattle.machine_data.specs.declared.scenario.Version.TheVariants as version
+use Rattle.machine_data.specs.declared.scenario.Version.{Version}
 use Rattle.machine_data.specs.declared.scenario.IdleLine.TheVariants as idle
 use Rattle.machine_data.specs.declared.component.ExportKind.{ExportKind}
 use Rattle.machine_data.specs.declared.component.ExportKind.TheVariants as kind
@@ -45,6 +47,12 @@ or_number token None = number_at token >>= λ n. Some (Number n)
 
 unfoldable pub operand_at : List ℕ → Option Operand
 operand_at token = or_number token (register_at token)
+
+unfoldable pub version_at : List ℕ → Option Version
+version_at token =
+    if bytes_eq token (codes "1") then Some version.One
+    else if bytes_eq token (codes "2") then Some version.Two
+    else None
 
 unfoldable pub idle_at : List ℕ → Option IdleLine
 idle_at token =

@@ -9,13 +9,14 @@ use crate::keyword::{FrameKeyword, Keyword};
 use crate::ops::{data_op_after, operand_after, set_op_after, task_op_after, thread_op_after};
 use crate::parts::{head_after, part_after};
 use crate::tokens::Name;
-use machine_data::{ExportKind, IdleLine, Op, Operand, Seq};
+use machine_data::{ExportKind, IdleLine, Op, Operand, Seq, Version};
 use std::alloc::{AllocError, Global};
 
 /// A line of the text's head.
 #[derive(Drop)]
 pub enum HeadLine {
-    Title,
+    /// `scenario 1` or `scenario 2`
+    Title(Version),
     Handles(u32),
     Table(u32),
     Idle(IdleLine),

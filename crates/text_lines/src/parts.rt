@@ -6,7 +6,7 @@ ghost use Rattle.text_lines.specs.Gives.{Gives};
 use crate::fields::{four, one, three};
 use crate::keyword::{HeadKeyword, PartKeyword};
 use crate::line::{HeadLine, HostWork, LineError, PartLine};
-use crate::tokens::{Name, bounded, export_kind, idle_line, is_name, number};
+use crate::tokens::{Name, bounded, export_kind, idle_line, is_name, number, version};
 use machine_data::Seq;
 use std::alloc::{AllocError, Global};
 
@@ -23,7 +23,7 @@ pub fn head_after(token: HeadKeyword, tokens: &[&[u8]]) -> Option<HeadLine>
     ensures { result ≡ head_after token (map (λ w. w.now) tokens.now) }
 {
     match token {
-        HeadKeyword::Scenario => (one(tokens)? == b"1".as_slice()).then_some(HeadLine::Title),
+        HeadKeyword::Scenario => Some(HeadLine::Title(version(one(tokens)?)?)),
         HeadKeyword::Handles => Some(HeadLine::Handles(bounded(one(tokens)?, 268_435_455)? as u32)),
         HeadKeyword::Table => Some(HeadLine::Table(bounded(one(tokens)?, 1_000_000)? as u32)),
         HeadKeyword::Idle => Some(HeadLine::Idle(idle_line(one(tokens)?)?)),

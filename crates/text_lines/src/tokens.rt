@@ -2,9 +2,9 @@
 ghost use Rattle.std.specs.Prelude.{◌≡◌, ◌≢◌, ◌≤◌, ℕ, decimal, length, IfSome, MatchOption};
 ghost use Rattle.std.specs.Char.{is_ascii_digit};
 ghost use Rattle.std.specs.List.{list_all};
-ghost use Rattle.text_lines.specs.Tokens.{digits_at, number_at, bounded_at, register_up_to, register_at, operand_at, idle_at, kind_at, is_name_byte, is_name};
+ghost use Rattle.text_lines.specs.Tokens.{digits_at, number_at, bounded_at, register_up_to, register_at, operand_at, idle_at, kind_at, version_at, is_name_byte, is_name};
 
-use machine_data::{ExportKind, IdleLine, Operand, Seq};
+use machine_data::{ExportKind, IdleLine, Operand, Seq, Version};
 
 /// A name: 1 to 16 of `a` to `z`, `0` to `9` and `_`, a letter first.
 pub type Name = Seq<u8>;
@@ -150,6 +150,17 @@ pub fn operand(token: &[u8]) -> Option<Operand>
         Some(r) => Some(Operand::Register(r)),
         None => Some(Operand::Number(number(token)?)),
     }
+}
+
+/// Returns by which rules a text is run, as a token says it.
+#[tactic(auto, unfolding(crate::specs::Tokens::version_at))]
+pub fn version(token: &[u8]) -> Option<Version>
+    ensures { result ≡ version_at token.now }
+{
+    if token == b"1".as_slice() {
+        return Some(Version::One);
+    }
+    (token == b"2".as_slice()).then_some(Version::Two)
 }
 
 /// Returns what happens where nothing goes on, as a token says it.

@@ -1,5 +1,6 @@
 -- The tree of the generated scenario's text.
 use Rattle.std.specs.Prelude.{ℕ, List, [], ◌∷◌, ◌++◌, Some, None, codes}
+use Rattle.machine_data.specs.declared.scenario.Version.TheVariants as version
 use Rattle.machine_data.specs.declared.component.ExportKind.TheVariants as kind
 use Rattle.machine_data.specs.declared.op.CallOp.TheVariants as call_op
 use Rattle.machine_data.specs.declared.op.DataOp.TheVariants as data_op
@@ -89,6 +90,7 @@ main_ops n = each_to start_op n ++ each_to finish_op n
 
 abbrev pub tree : ℕ → ScenarioText
 tree n = record {
+  version = version.One;
   handles = 100000;
   table = 1000000;
   idle = idle.Trap;

@@ -5,6 +5,7 @@ use Rattle.std.specs.List.{flat_map, list_all}
 use Rattle.std.proofs.lemmas.Bool.{and_parts, and_from, le-leb, leb-true, ltb-true}
 use Rattle.std.proofs.lemmas.List.{append-nil}
 use Rattle.std.proofs.lemmas.List.Sums.{count_by-le-length}
+use Rattle.machine_data.specs.declared.scenario.Version.{Version}
 use Rattle.machine_data.specs.declared.op.Op.{Op}
 use Rattle.machine_data.specs.declared.scenario.IdleLine.{IdleLine}
 use Rattle.text_lines.specs.declared.line.HeadLine.TheVariants as head_line
@@ -263,32 +264,32 @@ aborters_read s b before (ks ∷ more) few each =
 
 -- ---- The whole
 
-head_read : (h t : ℕ) (i : IdleLine) → handles_fit h ≡ true → table_fits t ≡ true → ReadsTo state.Empty (head_lines h t i) (state.Hosts (record { handles = h; table = t; idle = i; hosts = []; instances = [] }))
+head_read : (v : Version) (h t : ℕ) (i : IdleLine) → handles_fit h ≡ true → table_fits t ≡ true → ReadsTo state.Empty (head_lines v h t i) (state.Hosts (record { version = v; handles = h; table = t; idle = i; hosts = []; instances = [] }))
 unfolding after after_head after_title after_handles after_table after_idle
-head_read h t i fh ft =
-    let b : State = state.Hosts (record { handles = h; table = t; idle = i; hosts = []; instances = [] }) in
-    both state.Empty state.Titled b (title_tokens ∷ []) (handles_tokens h ∷ table_tokens t ∷ idle_tokens i ∷ []) (one_line state.Empty state.Titled (line.Head head_line.Title) refl refl)
-    (both state.Titled (state.Handles h) b (handles_tokens h ∷ []) (table_tokens t ∷ idle_tokens i ∷ []) (one_line state.Titled (state.Handles h) (line.Head (head_line.Handles h)) fh refl)
-    (both (state.Handles h) (state.Table h t) b (table_tokens t ∷ []) (idle_tokens i ∷ []) (one_line (state.Handles h) (state.Table h t) (line.Head (head_line.Table t)) ft refl)
-    (one_line (state.Table h t) b (line.Head (head_line.Idle i)) refl refl)))
+head_read v h t i fh ft =
+    let b : State = state.Hosts (record { version = v; handles = h; table = t; idle = i; hosts = []; instances = [] }) in
+    both state.Empty (state.Titled v) b (title_tokens v ∷ []) (handles_tokens h ∷ table_tokens t ∷ idle_tokens i ∷ []) (one_line state.Empty (state.Titled v) (line.Head (head_line.Title v)) refl refl)
+    (both (state.Titled v) (state.Handles v h) b (handles_tokens h ∷ []) (table_tokens t ∷ idle_tokens i ∷ []) (one_line (state.Titled v) (state.Handles v h) (line.Head (head_line.Handles h)) fh refl)
+    (both (state.Handles v h) (state.Table v h t) b (table_tokens t ∷ []) (idle_tokens i ∷ []) (one_line (state.Handles v h) (state.Table v h t) (line.Head (head_line.Table t)) ft refl)
+    (one_line (state.Table v h t) b (line.Head (head_line.Idle i)) refl refl)))
 
 abbrev body_of : ScenarioText → Body
-body_of s = record { handles = s.handles; table = s.table; idle = s.idle; hosts = s.hosts; instances = s.instances }
+body_of s = record { version = s.version; handles = s.handles; table = s.table; idle = s.idle; hosts = s.hosts; instances = s.instances }
 
 body_fits : (s : ScenarioText) → IsWellFormed s → BodyFits (body_of s)
 body_fits s fits = record { handles = fits.handles; table = fits.table; hosts = fits.hosts; instances = fits.instances }
 
-body_read : (s : ScenarioText) → IsWellFormed s → ReadsInstances state.Empty (head_lines s.handles s.table s.idle ++ body_lines s.hosts s.instances) (body_of s)
+body_read : (s : ScenarioText) → IsWellFormed s → ReadsInstances state.Empty (head_lines s.version s.handles s.table s.idle ++ body_lines s.hosts s.instances) (body_of s)
 unfolding instance_closed
 body_read s fits =
-    let none : Body = record { handles = s.handles; table = s.table; idle = s.idle; hosts = []; instances = [] } in
+    let none : Body = record { version = s.version; handles = s.handles; table = s.table; idle = s.idle; hosts = []; instances = [] } in
     let b : Body = record none { hosts = s.hosts } in
-    let head = head_lines s.handles s.table s.idle in
+    let head = head_lines s.version s.handles s.table s.idle in
     let hosts = map host_line s.hosts in
     let bare : BodyFits b = record { handles = fits.handles; table = fits.table; hosts = fits.hosts; instances = tt } in
     let more = instances_read (state.Hosts b) b s.instances bare refl fits.instances in
     let until_hosts = both (state.Hosts none) (state.Hosts b) more.0 hosts (lines_after s.hosts [] s.instances) (hosts_read none s.hosts fits.hosts) more.1 in
-    (more.0, both state.Empty (state.Hosts none) more.0 head (body_lines s.hosts s.instances) (head_read s.handles s.table s.idle fits.handles fits.table) until_hosts, more.2)
+    (more.0, both state.Empty (state.Hosts none) more.0 head (body_lines s.hosts s.instances) (head_read s.version s.handles s.table s.idle fits.handles fits.table) until_hosts, more.2)
 
 main_read : (s : ScenarioText) → IsWellFormed s → (t : State) → instance_closed t ≡ Some (body_of s) → ReadsTo t (main_lines s.hosts s.instances s.main) (state.Main (body_of s) s.main)
 unfolding after after_main
@@ -308,7 +309,7 @@ end_read s = one_line (state.Answered (body_of s) s.main s.answer s.aborters) (s
 tree_read : (s : ScenarioText) → IsWellFormed s → ReadsTo state.Empty (lines_of s) (state.Ended s)
 tree_read s fits =
     let b = body_of s in
-    let front = head_lines s.handles s.table s.idle ++ body_lines s.hosts s.instances in
+    let front = head_lines s.version s.handles s.table s.idle ++ body_lines s.hosts s.instances in
     let main_part = main_lines s.hosts s.instances s.main in
     let aborters = map aborter_tokens s.aborters in
     let few : length s.main ≤ 4095 = few_after (MainOpIsPlaced s.hosts s.instances) 4095 (main_room s.hosts s.instances) [] s.main (lit≤ tt) fits.main in

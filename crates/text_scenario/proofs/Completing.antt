@@ -1,6 +1,8 @@
 -- What a state has read can be completed: it begins a scenario.
 use Rattle.std.proofs.Common.{◌≡◌, ℕ, true, List, [], ◌∷◌, ◌++◌, map, Some, None, refl, sym, subst, ◌∙◌, append_assoc}
 use Rattle.std.proofs.lemmas.List.{append-nil}
+use Rattle.machine_data.specs.declared.scenario.Version.TheVariants as version
+use Rattle.machine_data.specs.declared.scenario.Version.{Version}
 use Rattle.machine_data.specs.declared.op.Operand.{Operand}
 use Rattle.machine_data.specs.declared.op.Operand.TheVariants.{Number}
 use Rattle.machine_data.specs.declared.scenario.IdleLine.TheVariants as idle
@@ -42,18 +44,18 @@ begins_body b fits = begins_front (front b) (main_lines b.hosts b.instances []) 
 begins_closed : (s : State) (b : Body) → instance_closed s ≡ Some b → IsSound s → PartBegins (so_far s)
 begins_closed s b e sound = let c = closes_instance s b e sound in begins_same (so_far s) (front b) c.lines (begins_body b c.body)
 
-begins_head : (h t : ℕ) → handles_fit h ≡ true → table_fits t ≡ true → PartBegins (head_lines h t idle.Trap)
-begins_head h t fh ft =
-    let b : Body = record { handles = h; table = t; idle = idle.Trap; hosts = []; instances = [] } in
+begins_head : (v : Version) (h t : ℕ) → handles_fit h ≡ true → table_fits t ≡ true → PartBegins (head_lines v h t idle.Trap)
+begins_head v h t fh ft =
+    let b : Body = record { version = v; handles = h; table = t; idle = idle.Trap; hosts = []; instances = [] } in
     begins_body b (record { handles = fh; table = ft; hosts = tt; instances = tt })
 
 -- what was read begins a scenario
 pub begins : (s : State) → IsSound s → PartBegins (so_far s)
 unfolding script_closed instance_closed
-begins state.Empty sound = begins_front [] (head_lines 100000 1000000 idle.Trap) (begins_head 100000 1000000 refl refl)
-begins state.Titled sound = begins_front (title_tokens ∷ []) (handles_tokens 100000 ∷ table_tokens 1000000 ∷ idle_tokens idle.Trap ∷ []) (begins_head 100000 1000000 refl refl)
-begins (state.Handles h) sound = begins_front (title_tokens ∷ handles_tokens h ∷ []) (table_tokens 1000000 ∷ idle_tokens idle.Trap ∷ []) (begins_head h 1000000 sound refl)
-begins (state.Table h t) sound = begins_front (title_tokens ∷ handles_tokens h ∷ table_tokens t ∷ []) (idle_tokens idle.Trap ∷ []) (begins_head h t sound.0 sound.1)
+begins state.Empty sound = begins_front [] (head_lines version.One 100000 1000000 idle.Trap) (begins_head version.One 100000 1000000 refl refl)
+begins (state.Titled v) sound = begins_front (title_tokens v ∷ []) (handles_tokens 100000 ∷ table_tokens 1000000 ∷ idle_tokens idle.Trap ∷ []) (begins_head v 100000 1000000 refl refl)
+begins (state.Handles v h) sound = begins_front (title_tokens v ∷ handles_tokens h ∷ []) (table_tokens 1000000 ∷ idle_tokens idle.Trap ∷ []) (begins_head v h 1000000 sound refl)
+begins (state.Table v h t) sound = begins_front (title_tokens v ∷ handles_tokens h ∷ table_tokens t ∷ []) (idle_tokens idle.Trap ∷ []) (begins_head v h t sound.0 sound.1)
 begins (state.Hosts b) sound = begins_body b sound.0
 begins (state.Instance b i) sound = begins_closed (state.Instance b i) (with_instance b i) refl sound
 begins (state.Script b i h start) sound = begins_closed (state.Script b i h start) (with_instance b (with_export i h start None)) refl sound

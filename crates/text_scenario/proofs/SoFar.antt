@@ -30,7 +30,7 @@ use Rattle.text_scenario.proofs.PlacementLaws.{each_more}
 
 -- the lines of the head, the hosts and the closed instances
 abbrev pub front : Body → Lines
-front b = head_lines b.handles b.table b.idle ++ body_lines b.hosts b.instances
+front b = head_lines b.version b.handles b.table b.idle ++ body_lines b.hosts b.instances
 
 -- the same, with an instance after them
 abbrev pub until : Body → InstanceText → Lines
@@ -48,9 +48,9 @@ react_part h start react = part.Export (export_from h start (Some react))
 
 abbrev pub so_far : State → Lines
 so_far state.Empty = []
-so_far state.Titled = title_tokens ∷ []
-so_far (state.Handles h) = title_tokens ∷ handles_tokens h ∷ []
-so_far (state.Table h t) = title_tokens ∷ handles_tokens h ∷ table_tokens t ∷ []
+so_far (state.Titled v) = title_tokens v ∷ []
+so_far (state.Handles v h) = title_tokens v ∷ handles_tokens h ∷ []
+so_far (state.Table v h t) = title_tokens v ∷ handles_tokens h ∷ table_tokens t ∷ []
 so_far (state.Hosts b) = front b
 so_far (state.Instance b i) = until b i
 so_far (state.Script b i h start) = part_after b i (start_part h start)
@@ -83,9 +83,9 @@ pub record AnswerFits (b : Body) (ops : List MainOpText) (x : Operand) (aborters
 -- what was read is where it does
 abbrev pub IsSound : State → Type 0
 IsSound state.Empty = Unit {0}
-IsSound state.Titled = Unit {0}
-IsSound (state.Handles h) = handles_fit h ≡ true
-IsSound (state.Table h t) = (handles_fit h ≡ true) × (table_fits t ≡ true)
+IsSound (state.Titled v) = Unit {0}
+IsSound (state.Handles v h) = handles_fit h ≡ true
+IsSound (state.Table v h t) = (handles_fit h ≡ true) × (table_fits t ≡ true)
 IsSound (state.Hosts b) = BodyFits b × (b.instances ≡ [])
 IsSound (state.Instance b i) = BodyFits b × InstanceIsPlaced b.hosts b.instances i
 IsSound (state.Script b i h start) = PartFits b i (start_part h start)
@@ -102,15 +102,15 @@ pub record Follows (s : State) (tokens : List (List ℕ)) (t : State) : Type 0 w
 
 -- ---- One host, instance or part more
 
-empty_front : (b : Body) → b.instances ≡ [] → front b ≡ head_lines b.handles b.table b.idle ++ map host_line b.hosts
+empty_front : (b : Body) → b.instances ≡ [] → front b ≡ head_lines b.version b.handles b.table b.idle ++ map host_line b.hosts
 empty_front b none =
-    let head = head_lines b.handles b.table b.idle in
+    let head = head_lines b.version b.handles b.table b.idle in
     let hosts = map host_line b.hosts in
     ap (λ (is : List InstanceText). head ++ (hosts ++ lines_after b.hosts [] is)) none ∙ ap (λ (ls : Lines). head ++ ls) (append-nil hosts)
 
 pub host_grows : (b : Body) (h : HostText) → b.instances ≡ [] → front (with_host b h) ≡ front b ++ host_line h ∷ []
 host_grows b h none =
-    let head = head_lines b.handles b.table b.idle in
+    let head = head_lines b.version b.handles b.table b.idle in
     let hosts = map host_line b.hosts in
     let more : head ++ map host_line (b.hosts ++ h ∷ []) ≡ head ++ (hosts ++ host_line h ∷ []) = ap (λ (ls : Lines). head ++ ls) (map-append host_line b.hosts (h ∷ [])) in
     empty_front (with_host b h) none ∙ more ∙ sym (append_assoc head hosts (host_line h ∷ [])) ∙ ap (λ (ls : Lines). ls ++ host_line h ∷ []) (sym (empty_front b none))
@@ -138,7 +138,7 @@ lines_grow hosts before (j ∷ is) i =
 
 pub front_grows : (b : Body) (i : InstanceText) → front (with_instance b i) ≡ until b i
 front_grows b i =
-    let head = head_lines b.handles b.table b.idle in
+    let head = head_lines b.version b.handles b.table b.idle in
     let hosts = map host_line b.hosts in
     let lines = lines_after b.hosts [] b.instances in
     let more = instance_lines b.hosts b.instances i in

@@ -4,6 +4,7 @@ use Rattle.std.specs.Prelude.{nat_le}
 use Rattle.std.specs.List.{list_all}
 use Rattle.std.proofs.lemmas.Bool.{and_parts, leb-true}
 use Rattle.std.proofs.lemmas.List.{append-nil, map-append}
+use Rattle.machine_data.specs.declared.scenario.Version.{Version}
 use Rattle.machine_data.specs.declared.op.Operand.{Operand}
 use Rattle.machine_data.specs.declared.op.Op.{Op}
 use Rattle.machine_data.specs.declared.op.Op.TheVariants as op
@@ -44,32 +45,32 @@ use Rattle.text_scenario.proofs.SoFar.{front, until, IsSound, Follows, BodyFits,
 
 -- ---- The head
 
-title_follows : (s t : State) → after_title s ≡ Some t → IsSound s → Follows s title_tokens t
+title_follows : (s t : State) (v : Version) → after_title s v ≡ Some t → IsSound s → Follows s (title_tokens v) t
 unfolding after_title
-title_follows state.Empty t e sound = subst (Follows state.Empty title_tokens) (some_is state.Titled t e) (record { lines = refl; sound = tt })
-title_follows _ t e sound = absurd cc
+title_follows state.Empty t v e sound = subst (Follows state.Empty (title_tokens v)) (some_is (state.Titled v) t e) (record { lines = refl; sound = tt })
+title_follows _ t v e sound = absurd cc
 
 handles_follow : (s t : State) (h : ℕ) → after_handles s h ≡ Some t → handles_fit h ≡ true → IsSound s → Follows s (handles_tokens h) t
 unfolding after_handles
-handles_follow state.Titled t h e fits sound = subst (Follows state.Titled (handles_tokens h)) (some_is (state.Handles h) t e) (record { lines = refl; sound = fits })
+handles_follow (state.Titled v) t h e fits sound = subst (Follows (state.Titled v) (handles_tokens h)) (some_is (state.Handles v h) t e) (record { lines = refl; sound = fits })
 handles_follow _ t h e fits sound = absurd cc
 
 table_follows : (s t : State) (n : ℕ) → after_table s n ≡ Some t → table_fits n ≡ true → IsSound s → Follows s (table_tokens n) t
 unfolding after_table
-table_follows (state.Handles h) t n e fits sound = subst (Follows (state.Handles h) (table_tokens n)) (some_is (state.Table h n) t e) (record { lines = refl; sound = (sound, fits) })
+table_follows (state.Handles v h) t n e fits sound = subst (Follows (state.Handles v h) (table_tokens n)) (some_is (state.Table v h n) t e) (record { lines = refl; sound = (sound, fits) })
 table_follows _ t n e fits sound = absurd cc
 
 idle_follows : (s t : State) (i : IdleLine) → after_idle s i ≡ Some t → IsSound s → Follows s (idle_tokens i) t
 unfolding after_idle
-idle_follows (state.Table h n) t i e sound =
-    let b : Body = record { handles = h; table = n; idle = i; hosts = []; instances = [] } in
+idle_follows (state.Table v h n) t i e sound =
+    let b : Body = record { version = v; handles = h; table = n; idle = i; hosts = []; instances = [] } in
     let fits : BodyFits b = record { handles = sound.0; table = sound.1; hosts = tt; instances = tt } in
-    subst (Follows (state.Table h n) (idle_tokens i)) (some_is (state.Hosts b) t e) (record { lines = refl; sound = (fits, refl) })
+    subst (Follows (state.Table v h n) (idle_tokens i)) (some_is (state.Hosts b) t e) (record { lines = refl; sound = (fits, refl) })
 idle_follows _ t i e sound = absurd cc
 
 head_follows : (s t : State) (l : HeadLine) → after_head s l ≡ Some t → head_line_fits l ≡ true → IsSound s → Follows s (head_line_tokens l) t
 unfolding after_head
-head_follows s t head_line.Title e fits sound = title_follows s t e sound
+head_follows s t (head_line.Title v) e fits sound = title_follows s t v e sound
 head_follows s t (head_line.Handles h) e fits sound = handles_follow s t h e fits sound
 head_follows s t (head_line.Table n) e fits sound = table_follows s t n e fits sound
 head_follows s t (head_line.Idle i) e fits sound = idle_follows s t i e sound

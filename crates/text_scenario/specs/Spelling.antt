@@ -8,6 +8,7 @@ use Rattle.machine_data.specs.declared.op.Op.TheVariants as op
 use Rattle.machine_data.specs.declared.op.CallOp.{CallOp}
 use Rattle.machine_data.specs.declared.op.CallOp.TheVariants as call_op
 use Rattle.machine_data.specs.declared.scenario.IdleLine.{IdleLine}
+use Rattle.machine_data.specs.declared.scenario.Version.{Version}
 use Rattle.text_lines.specs.LineTokens.{callee_token, title_tokens, handles_tokens, table_tokens, idle_tokens, host_tokens, instance_tokens, export_tokens, react_tokens, thread_tokens, bad_tokens, subtask_op_tokens, plain_op_tokens, call_tokens, call_sync_tokens, main_tokens, start_tokens, finish_tokens, spawn_tokens, abort_tokens, await_tokens, quiet_tokens, ready_tokens, answer_tokens, aborter_tokens, end_tokens}
 use Rattle.text_scenario.specs.declared.tree.HostText.{HostText}
 use Rattle.text_scenario.specs.declared.tree.ExportText.{ExportText}
@@ -23,8 +24,8 @@ Lines = List (List (List ℕ))
 
 -- ---- The head and the hosts
 
-abbrev pub head_lines : ℕ → ℕ → IdleLine → Lines
-head_lines handles table i = title_tokens ∷ handles_tokens handles ∷ table_tokens table ∷ idle_tokens i ∷ []
+abbrev pub head_lines : Version → ℕ → ℕ → IdleLine → Lines
+head_lines v handles table i = title_tokens v ∷ handles_tokens handles ∷ table_tokens table ∷ idle_tokens i ∷ []
 
 abbrev pub host_line : HostText → List (List ℕ)
 host_line h = host_tokens h.name h.work
@@ -112,5 +113,5 @@ main_lines hosts instances ops = main_tokens ∷ map (main_op_tokens hosts insta
 
 abbrev pub lines_of : ScenarioText → Lines
 lines_of s =
-    head_lines s.handles s.table s.idle ++ body_lines s.hosts s.instances ++ main_lines s.hosts s.instances s.main
+    head_lines s.version s.handles s.table s.idle ++ body_lines s.hosts s.instances ++ main_lines s.hosts s.instances s.main
     ++ answer_tokens s.answer ∷ [] ++ map aborter_tokens s.aborters ++ end_tokens ∷ []

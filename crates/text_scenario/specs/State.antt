@@ -8,6 +8,7 @@ use Rattle.machine_data.specs.declared.op.CallOp.TheVariants as call_op
 use Rattle.machine_data.specs.declared.op.Op.{Op}
 use Rattle.machine_data.specs.declared.op.Op.TheVariants as op
 use Rattle.machine_data.specs.declared.scenario.IdleLine.{IdleLine}
+use Rattle.machine_data.specs.declared.scenario.Version.{Version}
 use Rattle.text_lines.specs.declared.line.HeadLine.{HeadLine}
 use Rattle.text_lines.specs.declared.line.HeadLine.TheVariants as head_line
 use Rattle.text_lines.specs.declared.line.PartLine.{PartLine}
@@ -79,24 +80,25 @@ main_open _ = None
 
 -- ---- The head
 
-unfoldable pub after_title : State → Option State
-after_title state.Empty = Some state.Titled
-after_title _ = None
+unfoldable pub after_title : State → Version → Option State
+after_title state.Empty v = Some (state.Titled v)
+after_title _ v = None
 
 unfoldable pub after_handles : State → ℕ → Option State
-after_handles state.Titled h = Some (state.Handles h)
+after_handles (state.Titled v) h = Some (state.Handles v h)
 after_handles _ h = None
 
 unfoldable pub after_table : State → ℕ → Option State
-after_table (state.Handles h) t = Some (state.Table h t)
+after_table (state.Handles v h) t = Some (state.Table v h t)
 after_table _ t = None
 
 unfoldable pub after_idle : State → IdleLine → Option State
-after_idle (state.Table h t) i = Some (state.Hosts (record { handles = h; table = t; idle = i; hosts = []; instances = [] }))
+after_idle (state.Table v h t) i =
+    Some (state.Hosts (record { version = v; handles = h; table = t; idle = i; hosts = []; instances = [] }))
 after_idle _ i = None
 
 unfoldable pub after_head : State → HeadLine → Option State
-after_head s head_line.Title = after_title s
+after_head s (head_line.Title v) = after_title s v
 after_head s (head_line.Handles h) = after_handles s h
 after_head s (head_line.Table t) = after_table s t
 after_head s (head_line.Idle i) = after_idle s i
@@ -267,6 +269,7 @@ after_aborter _ ks = None
 
 abbrev pub whole : Body → List MainOpText → Operand → List (List ℕ) → ScenarioText
 whole b ops x aborters = record {
+  version = b.version;
   handles = b.handles;
   table = b.table;
   idle = b.idle;

@@ -12,7 +12,7 @@ use crate::placement::{
     export_opens, host_opens, instance_opens, is_callback, op_opens, slot_opens,
 };
 use crate::tree::{ExportText, HostText, InstanceText, MainOpText, PartText, ScenarioText};
-use machine_data::{DataOp, ExportKind, IdleLine, Op, Operand, Seq};
+use machine_data::{DataOp, ExportKind, IdleLine, Op, Operand, Seq, Version};
 use std::alloc::Global;
 use std::mem;
 use text_lines::{
@@ -22,6 +22,7 @@ use text_lines::{
 
 /// The head, the hosts, and the instances that are closed.
 pub struct Body {
+    pub version: Version,
     pub handles: u32,
     pub table: u32,
     pub idle: IdleLine,
@@ -34,6 +35,7 @@ pub struct Body {
 impl Drop for Body {
     fn drop(self) {
         let Body {
+            version: _,
             handles: _,
             table: _,
             idle: _,
@@ -51,6 +53,7 @@ impl Body {
         ensures { result ≡ whole self main answer aborters }
     {
         let Body {
+            version,
             handles,
             table,
             idle,
@@ -59,6 +62,7 @@ impl Body {
         } = self;
         let main = main.into_ops();
         ScenarioText {
+            version,
             handles,
             table,
             idle,
@@ -207,9 +211,9 @@ fn main_op_of(body: &Body, before: &MainLines, op: NamedOp) -> Option<MainOpText
 /// What the lines so far have said.
 pub enum State {
     Empty,
-    Titled,
-    Handles(u32),
-    Table(u32, u32),
+    Titled(Version),
+    Handles(Version, u32),
+    Table(Version, u32, u32),
     /// No instance has begun.
     Hosts(Body),
     /// An instance is open, and no script.
@@ -229,7 +233,8 @@ pub enum State {
 impl Drop for State {
     fn drop(self) {
         match self {
-            State::Empty | State::Titled | State::Handles(_) | State::Table(_, _) => {}
+            State::Empty | State::Titled(_) => {}
+            State::Handles(_, _) | State::Table(_, _, _) => {}
             State::Hosts(_) | State::Instance(_, _) => {}
             State::Script(_, _, _, _) | State::React(_, _, _, _, _) => {}
             State::Thread(_, _, _, _) | State::Main(_, _) => {}
@@ -278,11 +283,11 @@ impl State {
     }
 
     #[tactic(auto, unfolding(crate::specs::State::after_title))]
-    fn after_title(self) -> Result<State, LineError>
-        ensures { Gives result (after_title self) }
+    fn after_title(self, version: Version) -> Result<State, LineError>
+        ensures { Gives result (after_title self version) }
     {
         if let State::Empty = self {
-            return Ok(State::Titled);
+            return Ok(State::Titled(version));
         }
         Err(LineError::Bad)
     }
@@ -291,8 +296,8 @@ impl State {
     fn after_handles(self, handles: u32) -> Result<State, LineError>
         ensures { Gives result (after_handles self handles) }
     {
-        if let State::Titled = self {
-            return Ok(State::Handles(handles));
+        if let State::Titled(version) = self {
+            return Ok(State::Handles(version, handles));
         }
         Err(LineError::Bad)
     }
@@ -302,7 +307,7 @@ impl State {
         ensures { Gives result (after_table self table) }
     {
         match self {
-            State::Handles(handles) => Ok(State::Table(handles, table)),
+            State::Handles(version, handles) => Ok(State::Table(version, handles, table)),
             _ => Err(LineError::Bad),
         }
     }
@@ -312,7 +317,8 @@ impl State {
         ensures { Gives result (after_idle self idle) }
     {
         match self {
-            State::Table(handles, table) => Ok(State::Hosts(Body {
+            State::Table(version, handles, table) => Ok(State::Hosts(Body {
+                version,
                 handles,
                 table,
                 idle,
@@ -328,7 +334,7 @@ impl State {
         ensures { Gives result (after_head self line) }
     {
         match line {
-            HeadLine::Title => self.after_title(),
+            HeadLine::Title(version) => self.after_title(version),
             HeadLine::Handles(handles) => self.after_handles(handles),
             HeadLine::Table(table) => self.after_table(table),
             HeadLine::Idle(idle) => self.after_idle(alloc, idle),

@@ -1,6 +1,6 @@
 //! The tree of a scenario text: a field for each line, in the order of the lines.
 
-use machine_data::{Callee, ExportKind, IdleLine, Op, Operand, Seq};
+use machine_data::{Callee, ExportKind, IdleLine, Op, Operand, Seq, Version};
 use text_lines::{HostWork, Name};
 
 /// A `host` line.
@@ -61,6 +61,7 @@ pub enum MainOpText {
 /// the exports of that instance, all from 0.
 #[derive(Drop)]
 pub struct ScenarioText {
+    pub version: Version,
     pub handles: u32,
     pub table: u32,
     pub idle: IdleLine,

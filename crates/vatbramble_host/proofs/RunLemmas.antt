@@ -19,7 +19,7 @@ use Rattle.vatbramble_host.specs.HostRuns.{IsHostRunOf, host_opening, host_setti
 module _ (x : Scenario) (codes : CodesInCallbacks x.component) where
   once : (ls : List Label) (t : State) (run : Run (host_setting x) (host_opening x) ls t) → EndsOnce x.component (history (host_setting x) (host_opening x) ls t run)
   unfolding RunsAreOnce
-  once ls t run = runs_are_once (host_setting x) codes (length x.component.instances) x.handles x.table Unscripted tt ls t run
+  once ls t run = runs_are_once (host_setting x) codes x.rules (length x.component.instances) x.handles x.table Unscripted tt ls t run
 
   -- the setting, the first state and the trace before are named otherwise
   pub host_run : (y : Setting) (s : State) (before : List Label) (t : State) (after : List Label) (steps : ℕ) (o : Outcome) →

@@ -34,7 +34,7 @@ host_setting x = record { component = x.component; script = []; idle = x.idle }
 
 -- the state of a new store for the scenario, before such a main's first step
 abbrev pub host_opening : Scenario → State
-host_opening x = state_at (fresh (length x.component.instances) x.handles x.table) Unscripted turn.Main
+host_opening x = state_at (fresh x.rules (length x.component.instances) x.handles x.table) Unscripted turn.Main
 
 -- Some run of the machine with at most so many steps shows these labels and has ended in this outcome. It writes each end once, and
 -- hands it out once.

@@ -119,6 +119,7 @@ impl Hosted {
     {
         let Hosted { scenario } = self;
         let Scenario {
+            rules,
             handles,
             table,
             idle,
@@ -140,6 +141,7 @@ impl Hosted {
         };
         Ok(Hosted {
             scenario: Scenario {
+                rules,
                 handles,
                 table,
                 idle,
@@ -216,6 +218,7 @@ impl Hosted {
         let mut store: Store<T, H> = new_store(
             alloc,
             value,
+            scenario.rules,
             scenario.component.instances.len(),
             scenario.handles,
             scenario.table,

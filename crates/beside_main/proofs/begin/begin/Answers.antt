@@ -23,10 +23,10 @@ returns g c =
     record {
       able = open_able x.component _
           (may_open gated_says course x.component c.in-Ok.run' c.in-Ok.ensures.turn _ suits c.requires.runnable.component c.keep_notices.new.self _ c.run_concurrent.ensures.store _
-          c.requires.runnable.codes c.len.result x.handles x.table (rw c.len.ensures (omega arith)) (rw c.in_ok-keep_notices.ensures.ok c.in_ok-store.ensures.state) (rw c.in_ok-keep_notices.ensures.ok c.in_ok-store.ensures.works)
+          c.requires.runnable.codes x.rules c.len.result x.handles x.table (rw c.len.ensures (omega arith)) (rw c.in_ok-keep_notices.ensures.ok c.in_ok-store.ensures.state) (rw c.in_ok-keep_notices.ensures.ok c.in_ok-store.ensures.works)
           (c.new-script.ensures.knows _)
-          (fresh_asked c.len.result x.handles x.table c.keep_notices.new.self.state (rw c.in_ok-keep_notices.ensures.ok c.in_ok-store.ensures.state)))
-          (rw (c.run_concurrent.ensures.store, c.in_ok-keep_notices.ensures.ok, c.in_ok-store.ensures.state) (given_fresh c.len.result x.handles x.table)) c.requires.few;
+          (fresh_asked x.rules c.len.result x.handles x.table c.keep_notices.new.self.state (rw c.in_ok-keep_notices.ensures.ok c.in_ok-store.ensures.state)))
+          (rw (c.run_concurrent.ensures.store, c.in_ok-keep_notices.ensures.ok, c.in_ok-store.ensures.state) (given_fresh x.rules c.len.result x.handles x.table)) c.requires.few;
       setting = ap (λ (b : Bool). loop.setting_of x.component (script_of c.new-script.result) b) c.in-Ok.ensures.idle
           ∙ ap (λ (ops : List MainOp). loop.setting_of x.component (machine_ops ops) c.args.trap) (c.new-script.ensures.ops ∙ c.as_slice.ensures);
       state = ap (λ (p : Turn). state_at c.run_concurrent.new.store.state.core (part_of c.new-script.result) p) c.in-Ok.ensures.turn

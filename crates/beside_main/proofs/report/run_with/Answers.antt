@@ -2,7 +2,7 @@ use Rattle.std.proofs.Common.{List, ℕ, ap, map, refl, rules, subst, sym, ◌�
 use Rattle.beside_main.proofs.CellLemmas.{AreListed, all_are_met, all_listed, can, early_kept}
 use Rattle.beside_main.specs.Same.{same_cells}
 use Rattle.beside_main.proofs.ReportLemmas.{beside_ends, past_ends, reported, stalls}
-use Rattle.beside_main.specs.Cells.{KeepsCells}
+use Rattle.beside_main.specs.Cells.{AreEarly, KeepsCells}
 use Rattle.beside_main.specs.Course.{Able}
 use Rattle.beside_works.specs.declared.cells.SharedSpawn.{SharedSpawn}
 use Rattle.ops_turns.specs.Turn.{goes_on}
@@ -75,7 +75,10 @@ report_of-requires-2-clause-met g c =
     c.in_ok-meet_all.ensures.met c.in_ok-meet_all.ensures.out_of_memory c.in_ok-outcome.ensures.cells
 
 pub report_of-requires-2-clause-early : goal.report_of-requires-2-clause-early
-report_of-requires-2-clause-early g c = early_kept c.meet_all.new.cells.items c.go_past.new.beside.cells.list.items c.in_ok-early.early.items c.in_ok-outcome.ensures.cells c.in_ok-early.ensures
+report_of-requires-2-clause-early g c =
+    let early = c.in_ok-early.early.items in
+    early_kept c.meet_all.new.cells.items c.go_past.new.beside.cells.list.items early c.in_ok-outcome.ensures.cells
+    (subst (λ (cs : List SharedSpawn). AreEarly cs early) c.as_slice.ensures.value c.in_ok-early.ensures)
 
 pub report_of-requires-2-clause-concurrent : goal.report_of-requires-2-clause-concurrent
 report_of-requires-2-clause-concurrent g c = c.in_ok-outcome.ensures.concurrent ∙ (c.in_ok-ran.ensures.1.took.concurrent ∙ c.in_ok-beside.ensures.concurrent)

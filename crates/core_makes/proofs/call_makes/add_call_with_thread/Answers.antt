@@ -4,6 +4,7 @@ use Rattle.core_records.proofs.Core.{ap, arith, bare, Call, subst, sym, Thread, 
 use Rattle.core_records.specs.declared.{call_records.GuestTask.GuestTask, thread_records.GuestThread.GuestThread}
 use Rattle.core_makes.proofs.RequestLemmas.{request_core, request_call_thread}
 use Rattle.core_makes.proofs.call_makes.add_call_with_thread.Goals as goal
+use Rattle.core_records.specs.Names.{keeps_waits}
 
 pub overflow_add-number : goal.overflow_add-number
 unfolding seen
@@ -27,8 +28,9 @@ push_call_with_thread-requires-clause-may c =
           (ap (λ (h : GuestThread). h.number) thread) (ap (λ (h : GuestThread). h.thread) thread ∙ c.new_thread-thread.ensures) (ap (λ (h : GuestThread). h.instance) thread) (ap (λ (h : GuestThread). h.barred) thread ∙ c.bars.ensures)
           c.requires.caller c.requires.add.there c.requires.add.result;
       loose =
-          subst (λ (d : GuestTask). AreCallAndThreadLoose p (call_nodes_of d) (thread_nodes_of c.thread_record-thread.result)) (sym call)
-          (subst (λ (h : GuestThread). AreCallAndThreadLoose p c.args.nodes.0 (thread_nodes_of h)) (sym thread) c.requires.add.loose);
+          subst (λ (d : GuestTask). AreCallAndThreadLoose p (keeps_waits p.version d.call.kind) (call_nodes_of d) (thread_nodes_of c.thread_record-thread.result)) (sym call)
+          (subst (λ (h : GuestThread). AreCallAndThreadLoose p (keeps_waits p.version c.new_call-call.result.kind) c.args.nodes.0 (thread_nodes_of h)) (sym thread)
+          (subst (λ (k : Call). AreCallAndThreadLoose p (keeps_waits p.version k.kind) c.args.nodes.0 c.args.nodes.1) (sym c.new_call-call.ensures) c.requires.add.loose));
       unnamed = ap (λ (h : GuestThread). h.thread.handle) thread ∙ ap (λ (t : Thread). t.handle) c.new_thread-thread.ensures;
       interests = ap (λ (d : GuestTask). d.call.interesting) call ∙ ap (λ (k : Call). k.interesting) c.new_call-call.ensures;
     }

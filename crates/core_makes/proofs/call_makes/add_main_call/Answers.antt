@@ -5,6 +5,7 @@ use Rattle.core_records.specs.declared.{parts.CoreParts.CoreParts}
 use Rattle.core_makes.proofs.MainLemmas.{fits_fewer, fits_grouped, group_restored, keeps_grouped, call_thread_loose_beside}
 use Rattle.core_makes.proofs.call_makes.add_main_call.Goals as goal
 use Rattle.core_makes.specs.LooseCalls.{AreCallAndThreadLoose}
+use Rattle.core_records.specs.Names.{keeps_waits}
 
 pub overflow_add-number : goal.overflow_add-number
 unfolding seen
@@ -29,8 +30,8 @@ add_call_with_thread_outlined-requires-clause-add c =
       group = c.in-Ok.ensures.pushes.group;
       there = subst (λ (v : StateView). IsSome (get v.core.instances c.args.request.callee.instance)) (sym c.in-Ok.ensures.new) c.requires.add.there;
       result = λ is. subst (λ (y : CoreParts). HasRoom (y.made.threads + 1) y.results) (sym c.in-Ok.ensures.pushes.only) (c.requires.add.result is);
-      loose = subst (λ (y : CoreParts). AreCallAndThreadLoose (bare (parts_of y)) c.args.nodes.0 c.args.nodes.1) (sym c.in-Ok.ensures.pushes.only)
-          (call_thread_loose_beside a c.push_group.new.parts.groups (record a.made { groups = a.made.groups + 1 }) (record a.kept { used = a.kept.used + 1; groups = a.kept.groups + 1 }) c.args.nodes.0 c.args.nodes.1 c.requires.add.loose);
+      loose = subst (λ (y : CoreParts). AreCallAndThreadLoose (bare (parts_of y)) (keeps_waits y.version c.args.request.kind) c.args.nodes.0 c.args.nodes.1) (sym c.in-Ok.ensures.pushes.only)
+          (call_thread_loose_beside a c.push_group.new.parts.groups (record a.made { groups = a.made.groups + 1 }) (record a.kept { used = a.kept.used + 1; groups = a.kept.groups + 1 }) (keeps_waits a.version c.args.request.kind) c.args.nodes.0 c.args.nodes.1 c.requires.add.loose);
     }
 
 pub add_call_with_thread_outlined-requires-clause-caller : goal.add_call_with_thread_outlined-requires-clause-caller

@@ -1,6 +1,6 @@
 use Rattle.core_makes.specs.LooseCalls.{AreThreadLoose, thread_nodes_of}
 use Rattle.core_makes.proofs.RestoreLemmas.{image_restored, sound_restored}
-use Rattle.core_records.proofs.Core.{add_thread, ap, arith, bare, call_of, IsSoundCore, item_at, item_of, Keeps, new_thread, None, CoreImage, parts_of, registers_for, Script, seen, StateView, subst, sym, Table, Thread, thread_of, true, ℕ, ◌+◌, ◌<◌, ◌^◌, ◌∙◌}
+use Rattle.core_records.proofs.Core.{add_thread, ap, arith, bare, call_of, IsSoundCore, item_at, item_of, Keeps, new_thread, None, CoreImage, parts_of, registers_for, Script, seen, StateView, subst, sym, Table, Thread, thread_of, true, ℕ, ◌+◌, ◌<◌, ◌^◌, ◌∙◌, is_some}
 use Rattle.core_records.specs.declared.{call_records.GuestTask.GuestTask, single.Single.Single, thread_records.GuestThread.GuestThread}
 use Rattle.core_makes.proofs.MemberAddLemmas.{member_restored, threads_few}
 use Rattle.core_makes.proofs.RequestLemmas.{member_instance, request_member}
@@ -21,7 +21,7 @@ push_thread-requires-clause-may c =
           request_member a (call_of (seen a) c.args.task) c.call_there-call.result.now c.args.task.rep (Script.Slot c.args.slot) (registers_for c.args.words.now) c.thread_record-thread.result
           (ap (λ (h : GuestThread). h.number) thread) (ap (λ (h : GuestThread). h.thread) thread ∙ c.new_thread-thread.ensures) (ap (λ (h : GuestThread). h.task) thread ∙ c.rep.ensures) (ap (λ (h : GuestThread). h.instance) thread) (ap (λ (h : GuestThread). h.barred) thread)
           c.call_there-call.ensures.is c.requires.there;
-      loose = subst (λ (h : GuestThread). AreThreadLoose (bare (parts_of a)) (thread_nodes_of h)) (sym thread) c.requires.loose;
+      loose = subst (λ (h : GuestThread). AreThreadLoose (bare (parts_of a)) (is_some c.call_there-call.result.now.waits) (thread_nodes_of h)) (sym thread) (c.requires.loose c.call_there-call.result.now c.call_there-call.ensures.item);
       unnamed = ap (λ (h : GuestThread). h.thread.handle) thread ∙ ap (λ (t : Thread). t.handle) c.new_thread-thread.ensures;
     }
 

@@ -1,11 +1,12 @@
-use Rattle.core_records.proofs.Core.{ap, refl, removed, set_place, ◌∙◌}
+use Rattle.core_records.proofs.Core.{ap, refl, removed, set_place, subst, sym, ◌∙◌}
 use Rattle.core_records.specs.declared.{thread_records.GuestThread.GuestThread}
 use Rattle.core_places.proofs.FitLemmas.{may_recount}
-use Rattle.core_places.proofs.PlacedLemmas.{chain_live, node_made, placed_becomes, refiled, node_unlinked}
+use Rattle.core_places.proofs.PlacedLemmas.{chain_live, node_made, placed_becomes, refiled, node_unlinked, wait_may}
 use Rattle.core_places.proofs.ThreadLemmas.{alone_unset, op_progress_at, same_item, put_none}
 use Rattle.core_places.proofs.moves.put_alone.Goals as goal
 use Rattle.core_places.specs.Moved.{placed}
 use Rattle.core_records.specs.RecordPlaces.{thread_order_key}
+use Rattle.core_places.specs.Waits.{MayRefile, RefilesWait}
 
 pub entry_set-to-requires-clause-op_progress : goal.entry_set-to-requires-clause-op_progress
 entry_set-to-requires-clause-op_progress c = op_progress_at c.args.parts.now c.requires.sound c.args.id c.in-Some.found.now c.in-Some.ensures.item
@@ -22,15 +23,19 @@ file_in-requires-clause-live c = chain_live c.args.parts.now c.requires.sound c.
 pub file_in-requires-clause-unlinked : goal.file_in-requires-clause-unlinked
 file_in-requires-clause-unlinked c = node_unlinked c.args.parts.now c.requires.sound c.args.id c.in-Some.found.now c.in-Some.ensures.item (placed c.in-Some.found.now c.args.place c.args.state_target) refl refl ((c.requires.alone c.in-Some.found.now c.in-Some.ensures.item).1)
 
+pub refile_wait-requires : goal.refile_wait-requires
+refile_wait-requires c = subst (MayRefile c.args.parts.now.waits) (sym c.wait_filing-wait.ensures) (wait_may c.args.parts.now c.requires.sound c.args.id c.in-Some.found.now c.in-Some.ensures.item (placed c.in-Some.found.now c.args.place c.args.state_target) refl refl c.args.place)
+
 pub returns-in-Some : goal.returns-in-Some
 unfolding set_place
 returns-in-Some c =
     let a = c.args.parts.now in
     let g = c.in-Some.found.now in
     let item = c.in-Some.ensures.item in
-    let moved = placed_becomes a c.requires.sound c.args.id g item (placed g c.args.place c.args.state_target) refl refl c.no_set-from.result c.entry_set-to.result (alone_unset a c.no_set-from.result g.thread.place g.thread.op_progress c.no_set-from.ensures (c.requires.alone g item)) c.entry_set-to.ensures c.file_in.new.links
+    let moved = placed_becomes a c.requires.sound c.args.id g item (placed g c.args.place c.args.state_target) refl refl c.no_set-from.result c.entry_set-to.result (alone_unset a c.no_set-from.result g.thread.place g.thread.op_progress c.no_set-from.ensures (c.requires.alone g item)) c.entry_set-to.ensures c.file_in.new.links c.refile_wait.new.waits
     c.requires.place (op_progress_at a c.requires.sound c.args.id g item)
-    (refiled a c.requires.sound c.args.id g item (placed g c.args.place c.args.state_target) refl refl c.args.place c.args.chain c.thread_order_key-order_key.result c.file_in.new.links (c.thread_order_key-order_key.ensures ∙ ap (λ r. thread_order_key r g) c.rep.ensures) (c.requires.chain g item) c.file_in.ensures.links)
+    (refiled a c.requires.sound c.args.id g item (placed g c.args.place c.args.state_target) refl refl c.args.place c.args.chain c.thread_order_key-order_key.result c.file_in.new.links (c.thread_order_key-order_key.ensures ∙ ap (λ r. thread_order_key a.version r g) c.rep.ensures) (c.requires.chain g item) c.file_in.ensures.links)
+    (subst (RefilesWait a.waits c.refile_wait.new.waits) c.wait_filing-wait.ensures c.refile_wait.ensures)
     (λ t. record t { place = c.args.place }) refl _ (c.write_place.ensures g item) _ c.recount.ensures in
     record {
       sound = moved.sound;

@@ -1,6 +1,6 @@
 use Rattle.core_records.proofs.Core.{ap, Core, OpProgress, on_core, on_thread, refl, seen, StateView, thread_of, ◌∙◌}
 use Rattle.core_places.proofs.FitLemmas.{may_recount}
-use Rattle.core_places.proofs.PlacedLemmas.{placed_becomes, stays_filed}
+use Rattle.core_places.proofs.PlacedLemmas.{placed_becomes, stays_filed, waits_stay}
 use Rattle.core_places.proofs.ThreadLemmas.{runs_unset, becomes_none}
 use Rattle.core_places.proofs.StepLemmas.{answered_then}
 use Rattle.core_places.proofs.moves.put_answer.Goals as goal
@@ -26,9 +26,10 @@ returns-in-Running c =
     let a = c.args.parts.now in
     let g = c.in-Some.found.now in
     let item = c.in-Some.ensures.item in
-    placed_becomes a c.requires c.args.id g item (at_answer g c.args.register c.args.value c.args.position) refl refl c.no_set-from.result c.no_set-to.result (runs_unset a c.no_set-from.result g.thread.place g.thread.op_progress c.no_set-from.ensures c.in-Running.is) (runs_unset a c.no_set-to.result g.thread.place OpProgress.Fresh c.no_set-to.ensures c.in-Running.is) a.places
+    placed_becomes a c.requires c.args.id g item (at_answer g c.args.register c.args.value c.args.position) refl refl c.no_set-from.result c.no_set-to.result (runs_unset a c.no_set-from.result g.thread.place g.thread.op_progress c.no_set-from.ensures c.in-Running.is) (runs_unset a c.no_set-to.result g.thread.place OpProgress.Fresh c.no_set-to.ensures c.in-Running.is) a.places a.waits
     (place_bare a _ _ (thread_home a c.requires c.args.id g item).place) tt
-    (stays_filed a c.requires c.args.id g item (at_answer g c.args.register c.args.value c.args.position) refl refl refl)
+    (stays_filed a c.requires c.args.id g item (at_answer g c.args.register c.args.value c.args.position) refl refl refl refl)
+    (waits_stay a c.requires c.args.id g item (at_answer g c.args.register c.args.value c.args.position) refl refl refl)
     (to_answer c.args.register c.args.value c.args.position) refl _ (c.write_answer.ensures g item) _ c.recount.ensures
 
 pub returns-in_default : goal.returns-in_default

@@ -1,6 +1,6 @@
 use Rattle.core_records.proofs.Core.{refl}
 use Rattle.core_places.proofs.FitLemmas.{may_recount}
-use Rattle.core_places.proofs.PlacedLemmas.{placed_becomes, stays_filed}
+use Rattle.core_places.proofs.PlacedLemmas.{placed_becomes, stays_filed, waits_stay}
 use Rattle.core_places.proofs.ThreadLemmas.{op_progress_at, becomes_none}
 use Rattle.core_places.proofs.moves.put_op_counted.Goals as goal
 use Rattle.core_places.specs.Moved.{at_op, to_op}
@@ -23,9 +23,10 @@ returns-in-Some c =
     let a = c.args.parts.now in
     let g = c.in-Some.found.now in
     let item = c.in-Some.ensures.item in
-    placed_becomes a c.requires c.args.id g item (at_op g c.args.position) refl refl c.entry_set-from.result c.entry_set-to.result c.entry_set-from.ensures c.entry_set-to.ensures a.places
+    placed_becomes a c.requires c.args.id g item (at_op g c.args.position) refl refl c.entry_set-from.result c.entry_set-to.result c.entry_set-from.ensures c.entry_set-to.ensures a.places a.waits
     (place_bare a _ _ (thread_home a c.requires c.args.id g item).place) tt
-    (stays_filed a c.requires c.args.id g item (at_op g c.args.position) refl refl refl)
+    (stays_filed a c.requires c.args.id g item (at_op g c.args.position) refl refl refl refl)
+    (waits_stay a c.requires c.args.id g item (at_op g c.args.position) refl refl refl)
     (to_op c.args.position) refl _ (c.write_op.ensures g item) _ c.recount.ensures
 
 pub returns-in_default : goal.returns-in_default

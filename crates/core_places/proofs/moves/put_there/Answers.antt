@@ -1,6 +1,6 @@
 use Rattle.core_records.proofs.Core.{refl, set_op_progress}
 use Rattle.core_places.proofs.FitLemmas.{may_recount}
-use Rattle.core_places.proofs.PlacedLemmas.{placed_becomes, stays_filed}
+use Rattle.core_places.proofs.PlacedLemmas.{placed_becomes, stays_filed, waits_stay}
 use Rattle.core_places.proofs.ThreadLemmas.{runs_unset, becomes_none}
 use Rattle.core_places.proofs.moves.put_there.Goals as goal
 use Rattle.core_places.specs.Moved.{arrived}
@@ -15,9 +15,10 @@ returns-in-Running c =
     let a = c.args.parts.now in
     let g = c.in-Some.found.now in
     let item = c.in-Some.ensures.item in
-    placed_becomes a c.requires.sound c.args.id g item (arrived g c.args.op_progress c.args.op_target) refl refl c.no_set-from.result c.no_set-to.result (runs_unset a c.no_set-from.result g.thread.place g.thread.op_progress c.no_set-from.ensures c.in-Running.is) (runs_unset a c.no_set-to.result g.thread.place c.args.op_progress c.no_set-to.ensures c.in-Running.is) a.places
+    placed_becomes a c.requires.sound c.args.id g item (arrived g c.args.op_progress c.args.op_target) refl refl c.no_set-from.result c.no_set-to.result (runs_unset a c.no_set-from.result g.thread.place g.thread.op_progress c.no_set-from.ensures c.in-Running.is) (runs_unset a c.no_set-to.result g.thread.place c.args.op_progress c.no_set-to.ensures c.in-Running.is) a.places a.waits
     (place_bare a _ _ (thread_home a c.requires.sound c.args.id g item).place) c.requires.op_progress
-    (stays_filed a c.requires.sound c.args.id g item (arrived g c.args.op_progress c.args.op_target) refl refl refl)
+    (stays_filed a c.requires.sound c.args.id g item (arrived g c.args.op_progress c.args.op_target) refl refl refl refl)
+    (waits_stay a c.requires.sound c.args.id g item (arrived g c.args.op_progress c.args.op_target) refl refl refl)
     (λ t. record t { op_progress = c.args.op_progress }) refl _ (c.write_point.ensures g item) _ c.recount.ensures
 
 pub returns-in_default : goal.returns-in_default

@@ -1,6 +1,6 @@
 use Rattle.core_records.proofs.Core.{refl, set_op_progress}
 use Rattle.core_places.proofs.FitLemmas.{may_recount}
-use Rattle.core_places.proofs.PlacedLemmas.{placed_becomes, stays_filed}
+use Rattle.core_places.proofs.PlacedLemmas.{placed_becomes, stays_filed, waits_stay}
 use Rattle.core_places.proofs.ThreadLemmas.{op_progress_at, becomes_none}
 use Rattle.core_places.proofs.moves.put_there_counted.Goals as goal
 use Rattle.core_places.specs.Moved.{arrived}
@@ -24,9 +24,10 @@ returns-in-Some c =
     let a = c.args.parts.now in
     let g = c.in-Some.found.now in
     let item = c.in-Some.ensures.item in
-    placed_becomes a c.requires.sound c.args.id g item (arrived g c.args.op_progress c.args.op_target) refl refl c.entry_set-from.result c.entry_set-to.result c.entry_set-from.ensures c.entry_set-to.ensures a.places
+    placed_becomes a c.requires.sound c.args.id g item (arrived g c.args.op_progress c.args.op_target) refl refl c.entry_set-from.result c.entry_set-to.result c.entry_set-from.ensures c.entry_set-to.ensures a.places a.waits
     (place_bare a _ _ (thread_home a c.requires.sound c.args.id g item).place) c.requires.op_progress
-    (stays_filed a c.requires.sound c.args.id g item (arrived g c.args.op_progress c.args.op_target) refl refl refl)
+    (stays_filed a c.requires.sound c.args.id g item (arrived g c.args.op_progress c.args.op_target) refl refl refl refl)
+    (waits_stay a c.requires.sound c.args.id g item (arrived g c.args.op_progress c.args.op_target) refl refl refl)
     (λ t. record t { op_progress = c.args.op_progress }) refl _ (c.write_point.ensures g item) _ c.recount.ensures
 
 pub returns-in_default : goal.returns-in_default

@@ -1,5 +1,5 @@
 use Rattle.std.proofs.Common.{is_ok}
-use Rattle.core_removals.proofs.CallLemmas.{blocked_live, call_counted, group_counted, group_named, group_positive, interest_counted, ready_made, removed_core, removed_sound, removed_tags}
+use Rattle.core_removals.proofs.CallLemmas.{blocked_live, call_counted, group_counted, group_named, group_positive, interest_counted, ready_made, removed_core, removed_sound, removed_tags, waits_live}
 use Rattle.core_removals.proofs.RewriteLemmas.{item_written}
 use Rattle.core_removals.proofs.call_removals.drop_call.Goals as goal
 use Rattle.core_records.proofs.Core.{ap, arith, Call, cond, IsSoundCore, option_map_or, refl, seen, subst, sym, ℕ, ◌-◌, ◌<◌, ◌∙◌, ◌≡◌, ◌≤◌}
@@ -26,6 +26,9 @@ close_order_keys-requires c = blocked_live c.args.parts.now c.requires.sound c.a
 pub drop_order_key-requires : goal.drop_order_key-requires
 drop_order_key-requires c = ready_made c.args.parts.now c.requires.sound c.args.call c.call_there-found.result.now c.call_there-found.ensures.item
 
+pub close_waits-requires : goal.close_waits-requires
+close_waits-requires c = waits_live c.args.parts.now c.requires.sound c.args.call c.call_there-found.result.now c.call_there-found.ensures.item
+
 pub overflow_sub-parts : goal.overflow_sub-parts
 overflow_sub-parts c = call_counted c.args.parts.now c.requires.sound c.args.call c.call_there-found.result.now c.call_there-found.ensures.item
 
@@ -36,7 +39,7 @@ pub returns-clause-sound : goal.returns-clause-sound
 unfolding IsSoundCore
 returns-clause-sound c =
     removed_sound c.args.parts.now c.requires.sound c.args.call c.call_there-found.result.now c.call_there-found.ensures.item c.group_unchecked.result.0 c.group_unchecked.result.1 c.group_unchecked.ensures.item (c.group_unchecked.ensures.number ∙ (call_names c.args.parts.now c.requires.sound c.args.call c.call_there-found.result.now c.call_there-found.ensures.item).group) c.requires.last c.requires.join
-    c.close_order_keys.new.links c.drop_order_key.new.links c.close_order_keys.ensures c.drop_order_key.ensures (c.args.parts.now.kept.interesting - c.one_if.result) (let few = interest_counted c.args.parts.now c.requires.sound c.args.call c.call_there-found.result.now c.call_there-found.ensures.item in let one : c.one_if.result ≡ cond {A = ℕ} c.call_there-found.result.now.call.interesting 1 0 = c.one_if.ensures in omega arith)
+    c.close_order_keys.new.links c.drop_order_key.new.links c.close_waits.new.waits c.close_order_keys.ensures c.drop_order_key.ensures c.close_waits.ensures (c.args.parts.now.kept.interesting - c.one_if.result) (let few = interest_counted c.args.parts.now c.requires.sound c.args.call c.call_there-found.result.now c.call_there-found.ensures.item in let one : c.one_if.result ≡ cond {A = ℕ} c.call_there-found.result.now.call.interesting 1 0 = c.one_if.ensures in omega arith)
     c.take.new.self c.take.ensures.deleted c.take.ensures.sound
 
 pub returns-clause-new : goal.returns-clause-new
@@ -45,12 +48,12 @@ returns-clause-new c =
     record {
       core =
           removed_core c.args.parts.now c.requires.sound c.args.call c.call_there-found.result.now c.call_there-found.ensures.item c.group_unchecked.result.0 c.group_unchecked.result.1 c.group_unchecked.ensures.item (c.group_unchecked.ensures.number ∙ (call_names c.args.parts.now c.requires.sound c.args.call c.call_there-found.result.now c.call_there-found.ensures.item).group) c.requires.last c.requires.join
-          c.close_order_keys.new.links c.drop_order_key.new.links c.close_order_keys.ensures c.drop_order_key.ensures (c.args.parts.now.kept.interesting - c.one_if.result) (let few = interest_counted c.args.parts.now c.requires.sound c.args.call c.call_there-found.result.now c.call_there-found.ensures.item in let one : c.one_if.result ≡ cond {A = ℕ} c.call_there-found.result.now.call.interesting 1 0 = c.one_if.ensures in omega arith)
+          c.close_order_keys.new.links c.drop_order_key.new.links c.close_waits.new.waits c.close_order_keys.ensures c.drop_order_key.ensures c.close_waits.ensures (c.args.parts.now.kept.interesting - c.one_if.result) (let few = interest_counted c.args.parts.now c.requires.sound c.args.call c.call_there-found.result.now c.call_there-found.ensures.item in let one : c.one_if.result ≡ cond {A = ℕ} c.call_there-found.result.now.call.interesting 1 0 = c.one_if.ensures in omega arith)
           c.take.new.self c.take.ensures.deleted;
       current = refl;
       tags =
           removed_tags c.args.parts.now c.requires.sound c.args.call c.call_there-found.result.now c.call_there-found.ensures.item c.group_unchecked.result.0 c.group_unchecked.result.1 c.group_unchecked.ensures.item (c.group_unchecked.ensures.number ∙ (call_names c.args.parts.now c.requires.sound c.args.call c.call_there-found.result.now c.call_there-found.ensures.item).group) c.requires.last c.requires.join
-          c.close_order_keys.new.links c.drop_order_key.new.links c.close_order_keys.ensures c.drop_order_key.ensures (c.args.parts.now.kept.interesting - c.one_if.result) (let few = interest_counted c.args.parts.now c.requires.sound c.args.call c.call_there-found.result.now c.call_there-found.ensures.item in let one : c.one_if.result ≡ cond {A = ℕ} c.call_there-found.result.now.call.interesting 1 0 = c.one_if.ensures in omega arith)
+          c.close_order_keys.new.links c.drop_order_key.new.links c.close_waits.new.waits c.close_order_keys.ensures c.drop_order_key.ensures c.close_waits.ensures (c.args.parts.now.kept.interesting - c.one_if.result) (let few = interest_counted c.args.parts.now c.requires.sound c.args.call c.call_there-found.result.now c.call_there-found.ensures.item in let one : c.one_if.result ≡ cond {A = ℕ} c.call_there-found.result.now.call.interesting 1 0 = c.one_if.ensures in omega arith)
           c.take.new.self c.take.ensures.deleted;
     }
 

@@ -1,6 +1,6 @@
 use Rattle.std.proofs.Common.{is_ok}
 use Rattle.core_removals.proofs.CloseLemmas.{closed_free}
-use Rattle.core_removals.proofs.ThreadLemmas.{call_counted, caller_unlinked, callers_live, mark_unlinked, node_made, removed_core, removed_sound, removed_tags, instance_queue_unlinked, thread_counted, under_live}
+use Rattle.core_removals.proofs.ThreadLemmas.{call_counted, caller_unlinked, callers_live, mark_unlinked, node_made, removed_core, removed_sound, removed_tags, instance_queue_unlinked, thread_counted, under_live, wait_made}
 use Rattle.core_removals.proofs.thread_removals.drop_thread.Goals as goal
 use Rattle.core_records.proofs.Core.{ap, entry_of, IsSoundCore, KeepsBut, lost_thread, refl, seen, subst, sym, thread_of, with_entry, ◌-◌, ◌∙◌}
 use Rattle.core_records.specs.declared.{call_records.GuestTask.GuestTask, thread_records.GuestThread.GuestThread}
@@ -22,6 +22,9 @@ close_order_keys-requires c = under_live c.args.parts.now c.requires.sound c.arg
 pub drop_order_key-requires : goal.drop_order_key-requires
 drop_order_key-requires c = c.close_order_keys.ensures.made _ (node_made c.args.parts.now c.requires.sound c.args.thread c.with_call.result.0 c.with_call.ensures.thread c.with_call.result.1 c.with_call.result.2 c.with_call.ensures.call c.with_call.ensures.of c.requires.apart c.requires.place)
 
+pub drop_wait-requires : goal.drop_wait-requires
+drop_wait-requires c = wait_made c.args.parts.now c.requires.sound c.args.thread c.with_call.result.0 c.with_call.ensures.thread c.with_call.result.1 c.with_call.result.2 c.with_call.ensures.call c.with_call.ensures.of c.requires.apart c.requires.place
+
 pub close-requires : goal.close-requires
 close-requires c = callers_live c.args.parts.now c.requires.sound c.args.thread c.with_call.result.0 c.with_call.ensures.thread c.with_call.result.1 c.with_call.result.2 c.with_call.ensures.call c.with_call.ensures.of c.requires.apart c.requires.place
 
@@ -41,9 +44,9 @@ pub returns-clause-sound : goal.returns-clause-sound
 unfolding IsSoundCore
 returns-clause-sound c =
     let a = c.args.parts.now in
-    subst (λ (x : GuestTask). IsSoundCore (record a { threads = c.take.new.self; calls = with_entry c.with_call.result.1.rep (entry_of (record x { threads = c.with_call.result.2.threads - 1 })) a.calls; places = c.drop_order_key.new.links; marks = c.drop_node-2.new.self; instance_queues = c.drop_node-3.new.self; behind = c.drop_node.new.self; kept = record a.kept { used = a.kept.used - 2 } })) (same_item c.with_call.ensures.call c.get_mut_unchecked.ensures.value)
+    subst (λ (x : GuestTask). IsSoundCore (record a { threads = c.take.new.self; calls = with_entry c.with_call.result.1.rep (entry_of (record x { threads = c.with_call.result.2.threads - 1 })) a.calls; places = c.drop_order_key.new.links; waits = c.drop_wait.new.waits; marks = c.drop_node-2.new.self; instance_queues = c.drop_node-3.new.self; behind = c.drop_node.new.self; kept = record a.kept { used = a.kept.used - 2 } })) (same_item c.with_call.ensures.call c.get_mut_unchecked.ensures.value)
     (removed_sound c.args.parts.now c.requires.sound c.args.thread c.with_call.result.0 c.with_call.ensures.thread c.with_call.result.1 c.with_call.result.2 c.with_call.ensures.call c.with_call.ensures.of c.requires.apart c.requires.place
-    c.close_order_keys.new.links c.drop_order_key.new.links c.close_order_keys.ensures c.drop_order_key.ensures c.drop_node-2.new.self c.drop_node-2.ensures c.drop_node-3.new.self c.drop_node-3.ensures c.close.new.links c.drop_node.new.self c.close.ensures c.drop_node.ensures c.take.new.self c.take.ensures.deleted c.take.ensures.sound)
+    c.close_order_keys.new.links c.drop_order_key.new.links c.close_order_keys.ensures c.drop_order_key.ensures c.drop_wait.new.waits c.drop_wait.ensures c.drop_node-2.new.self c.drop_node-2.ensures c.drop_node-3.new.self c.drop_node-3.ensures c.close.new.links c.drop_node.new.self c.close.ensures c.drop_node.ensures c.take.new.self c.take.ensures.deleted c.take.ensures.sound)
 
 pub returns-clause-new : goal.returns-clause-new
 unfolding seen
@@ -51,15 +54,15 @@ returns-clause-new c =
     record {
       core =
           let a = c.args.parts.now in
-          ap (λ (x : GuestTask). (seen (record a { threads = c.take.new.self; calls = with_entry c.with_call.result.1.rep (entry_of (record x { threads = c.with_call.result.2.threads - 1 })) a.calls; places = c.drop_order_key.new.links; marks = c.drop_node-2.new.self; instance_queues = c.drop_node-3.new.self; behind = c.drop_node.new.self; kept = record a.kept { used = a.kept.used - 2 } })).core) (sym (same_item c.with_call.ensures.call c.get_mut_unchecked.ensures.value))
+          ap (λ (x : GuestTask). (seen (record a { threads = c.take.new.self; calls = with_entry c.with_call.result.1.rep (entry_of (record x { threads = c.with_call.result.2.threads - 1 })) a.calls; places = c.drop_order_key.new.links; waits = c.drop_wait.new.waits; marks = c.drop_node-2.new.self; instance_queues = c.drop_node-3.new.self; behind = c.drop_node.new.self; kept = record a.kept { used = a.kept.used - 2 } })).core) (sym (same_item c.with_call.ensures.call c.get_mut_unchecked.ensures.value))
           ∙ removed_core c.args.parts.now c.requires.sound c.args.thread c.with_call.result.0 c.with_call.ensures.thread c.with_call.result.1 c.with_call.result.2 c.with_call.ensures.call c.with_call.ensures.of c.requires.apart c.requires.place
-          c.close_order_keys.new.links c.drop_order_key.new.links c.close_order_keys.ensures c.drop_order_key.ensures c.drop_node-2.new.self c.drop_node-2.ensures c.drop_node-3.new.self c.drop_node-3.ensures c.close.new.links c.drop_node.new.self c.close.ensures c.drop_node.ensures c.take.new.self c.take.ensures.deleted;
+          c.close_order_keys.new.links c.drop_order_key.new.links c.close_order_keys.ensures c.drop_order_key.ensures c.drop_wait.new.waits c.drop_wait.ensures c.drop_node-2.new.self c.drop_node-2.ensures c.drop_node-3.new.self c.drop_node-3.ensures c.close.new.links c.drop_node.new.self c.close.ensures c.drop_node.ensures c.take.new.self c.take.ensures.deleted;
       current = refl;
       tags =
           let a = c.args.parts.now in
-          subst (λ (x : GuestTask). KeepsBut (lost_thread (thread_of (seen a) c.args.thread)) (seen a).tags (seen (record a { threads = c.take.new.self; calls = with_entry c.with_call.result.1.rep (entry_of (record x { threads = c.with_call.result.2.threads - 1 })) a.calls; places = c.drop_order_key.new.links; marks = c.drop_node-2.new.self; instance_queues = c.drop_node-3.new.self; behind = c.drop_node.new.self; kept = record a.kept { used = a.kept.used - 2 } })).tags) (same_item c.with_call.ensures.call c.get_mut_unchecked.ensures.value)
+          subst (λ (x : GuestTask). KeepsBut (lost_thread (thread_of (seen a) c.args.thread)) (seen a).tags (seen (record a { threads = c.take.new.self; calls = with_entry c.with_call.result.1.rep (entry_of (record x { threads = c.with_call.result.2.threads - 1 })) a.calls; places = c.drop_order_key.new.links; waits = c.drop_wait.new.waits; marks = c.drop_node-2.new.self; instance_queues = c.drop_node-3.new.self; behind = c.drop_node.new.self; kept = record a.kept { used = a.kept.used - 2 } })).tags) (same_item c.with_call.ensures.call c.get_mut_unchecked.ensures.value)
           (removed_tags c.args.parts.now c.requires.sound c.args.thread c.with_call.result.0 c.with_call.ensures.thread c.with_call.result.1 c.with_call.result.2 c.with_call.ensures.call c.with_call.ensures.of c.requires.apart c.requires.place
-          c.close_order_keys.new.links c.drop_order_key.new.links c.close_order_keys.ensures c.drop_order_key.ensures c.drop_node-2.new.self c.drop_node-2.ensures c.drop_node-3.new.self c.drop_node-3.ensures c.close.new.links c.drop_node.new.self c.close.ensures c.drop_node.ensures c.take.new.self c.take.ensures.deleted);
+          c.close_order_keys.new.links c.drop_order_key.new.links c.close_order_keys.ensures c.drop_order_key.ensures c.drop_wait.new.waits c.drop_wait.ensures c.drop_node-2.new.self c.drop_node-2.ensures c.drop_node-3.new.self c.drop_node-3.ensures c.close.new.links c.drop_node.new.self c.close.ensures c.drop_node.ensures c.take.new.self c.take.ensures.deleted);
     }
 
 pub returns-clause-places : goal.returns-clause-places

@@ -1,4 +1,5 @@
 -- The new store is in order at main's turn, and what was driven begins there.
+use Rattle.machine_data.specs.declared.scenario.Version.TheVariants as version
 use Rattle.std.proofs.Common.{ap, arith, refl, ◌∙◌}
 use Rattle.std.specs.Prelude.{Bool, []}
 use Rattle.machine_data.specs.Core.{Unscripted}
@@ -16,7 +17,7 @@ drive-requires c =
     let d = c.args.component.now in
     record {
       may = may_open _ _ _ c.in-Ok.run' c.in-Ok.ensures.turn c.new-main.result (c.requires.double, c.requires.next) (covered_of d c.requires.exports) c.in_ok-store.store _ c.run_concurrent.ensures.store _
-          (codes_of d c.requires.exports) 2 100000 1000000 (let two = c.requires.two in omega (arith, two)) c.in_ok-store.ensures.state c.in_ok-store.ensures.works (c.new-main.ensures.keeps _) c.in_ok-store.ensures.groups;
+          (codes_of d c.requires.exports) version.One 2 100000 1000000 (let two = c.requires.two in omega (arith, two)) c.in_ok-store.ensures.state c.in_ok-store.ensures.works (c.new-main.ensures.keeps _) c.in_ok-store.ensures.groups;
     }
 
 pub returns-clause-answers : goal.returns-clause-answers

@@ -4,7 +4,7 @@ use Rattle.ops_dispatch.proofs.OpLemmas.{asked_op, tags_told}
 use Rattle.ops_dispatch.proofs.SubtaskRules.{host_shows}
 use Rattle.ops_dispatch.proofs.call_dispatch.call_of_host.Goals as goal
 use Rattle.ops_dispatch.specs.Rules.{rule_of}
-use Rattle.std.proofs.Common.{ap, inr, subst, sym, ◌∙◌}
+use Rattle.std.proofs.Common.{ap, inr, refl, subst, sym, ◌∙◌}
 use Rattle.std.specs.Prelude.{Some, option_map}
 use Rattle.ops_subtasks.proofs.FirstLemmas.{met_first}
 use Rattle.ops_subtasks.specs.First.{first_heard}
@@ -34,7 +34,7 @@ returns-clause-does g c r =
       does = asked_op (calls_host q p) (rule_of c.args.component.now (op.Call (call_op.CallHost r q c.args.host))) c.args.thread s t op_result (host_shows n s.core SomeHost q p) c.requires.runner.current c.requires.runner.live did
           (λ d. subst (λ (h : HostDef). Implements (first_polled h (call_host_by d n q s.core)) s.core op_result (ended d n op_result t.core)) c.host_def-host.ensures
           (met_first host c.args.answer (call_host_by d n q s.core) s.core (ended d n op_result t.core) op_result (did.implements d)))
-          (λ d. calls_calm d c.args.component.now n s.core (call_op.CallHost r q c.args.host));
+          (λ d. calls_calm d c.args.component.now n s.core (call_op.CallHost r q c.args.host) refl);
       polls = record {
         polled = ap (λ (h : HostDef). Some h) c.host_def-host.ensures;
         work = e.work.work;

@@ -64,7 +64,7 @@ returns-clause-does g c r =
           (λ d. subst (λ (x : Progress). Implements x s.core op_result (ended d n op_result t.core)) (sym (sync_host_fresh comp n d s.core c.args.host (op_progress_of n s.core) fresh))
           (subst (λ (h : HostDef). Implements (first_polled h (call_sync_host_by d n s.core)) s.core op_result (ended d n op_result t.core)) c.host_def-host.ensures
           (met_first host c.args.answer (call_sync_host_by d n s.core) s.core (ended d n op_result t.core) op_result (did.implements d))))
-          (λ d. calls_calm d comp n s.core (call_op.CallSyncHost r c.args.host));
+          (λ d. calls_calm d comp n s.core (call_op.CallSyncHost r c.args.host) refl);
       polls = record {
         polled = ap (λ (h : HostDef). Some h) c.host_def-host.ensures ∙ sym (polled_fresh comp r c.args.host (op_progress_of n s.core) fresh);
         work = e.work.work;

@@ -19,4 +19,4 @@ returns-else-finds-clause-picks g c =
     let v = g.W.View.view in
     let s = v c.args.w.now in
     code_waits_picks c.args.thread c.task_of.result c.in-Some.set _ c.args.handle _ false c.args.label (code_waits (thread_of s c.args.thread)) s (v c.stop_reopened.new.w) (v c.set_place.new.self) c.instance_of-instance.ensures c.in-Some.ensures.is c.task_of.ensures.is c.has_event_for-finds.ensures c.if-finds.false (λ y held d. refl)
-    (waits_core c.args.thread c.in-Some.set s (v c.stop_reopened.new.w) (v c.set_place.new.self) c.set_place.ensures) c.stop_reopened.ensures c.requires.silent
+    (waits_core c.args.thread c.in-Some.set s (v c.stop_reopened.new.w) (v c.arrive.new.self) (v c.set_place.new.self) c.arrive.ensures c.set_place.ensures) c.stop_reopened.ensures c.requires.silent

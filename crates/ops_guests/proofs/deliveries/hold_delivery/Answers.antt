@@ -8,4 +8,7 @@ pub stop-requires-clause-may : goal.stop-requires-clause-may
 stop-requires-clause-may g c = foot_may_stop c.args.thread (place.Ready c.requires.taken.0 _) _ (g.W.View.view c.args.w.now) refl c.requires.taken.1 c.foot_of-foot.ensures.is
 
 pub returns-clause-new : goal.returns-clause-new
-returns-clause-new g c = held_is c.args.thread c.foot_of-foot.result _ (g.W.View.view c.args.w.now) (g.W.View.view c.stop.new.w) _ c.requires.taken c.foot_of-foot.ensures.is c.stop.ensures c.hold.ensures
+returns-clause-new g c =
+    let v = g.W.View.view in
+    held_is c.args.thread c.foot_of-foot.result _ (v c.args.w.now) (v c.stop.new.w) (v c.arrive.new.self) _ c.requires.taken c.foot_of-foot.ensures.is c.stop.ensures
+    c.arrive.ensures c.hold.ensures

@@ -27,7 +27,7 @@ returns-in-Some g c =
     let m = c.number-number.result in
     let l = wait_label m c.given-given.result (Some c.number.result) in
     let shows : ShowsFirst (preference s) s.core l = waking_shows (preference s) s.core l (thread_of s c.in-Some.woken) (ap (λ (k : ℕ). Some k) woken) refl c.in-Some.ensures.first in
-    let meets = λ (d : Doer). goes_on_implements c.args.thread _ d c.task_of-call.result _ _ _ _ c.picked_event_for-picked_event.result c.given-given.result s t u c.waited-in-Some.ensures c.task_of-call.ensures.is c.number-number.ensures woken c.picked_event_for-picked_event.ensures.is c.given-given.ensures.is c.in-Some.ensures.choice c.in-Some.ensures.new c.take.ensures 0 in
+    let meets = λ (d : Doer). goes_on_implements c.args.thread _ d c.waits_cancellable-cancellable.result c.task_of-call.result _ _ _ _ c.picked_event_for-picked_event.result c.given-given.result s t u c.waited-in-Some.ensures c.task_of-call.ensures.is c.number-number.ensures woken c.waits_cancellable-cancellable.ensures c.picked_event_for-picked_event.ensures.is c.given-given.ensures.is c.in-Some.ensures.choice c.in-Some.ensures.new c.take.ensures 0 in
     record {
       does = does_same _ c.args.thread s u _ meets
           (waits_picks c.args.thread _ s _ u _ l c.waited-in-Some.ensures shows meets)
@@ -50,7 +50,7 @@ returns-in-None g c =
       waiter = tt;
       member = given_shows s c.instance_of-instance.result m c.picked_event_for-picked_event.result c.given-given.result c.given-given.ensures.handle c.picked_event_for-picked_event.ensures.first here;
     } in
-    let meets = λ (d : Doer). takes_implements c.args.thread _ d c.task_of-call.result _ _ _ c.picked_event_for-picked_event.result c.given-given.result s t u some c.waited.ensures c.instance_of-instance.ensures c.picked_event_for-picked_event.ensures.named c.given-given.ensures.handle c.task_of-call.ensures.is c.number-number.ensures c.picked_event_for-picked_event.ensures.is c.given-given.ensures.is c.in-None.ensures.choice c.in-None.ensures.new c.take.ensures 0 in
+    let meets = λ (d : Doer). takes_implements c.args.thread _ d c.waits_cancellable-cancellable.result c.task_of-call.result _ _ _ c.picked_event_for-picked_event.result c.given-given.result s t u some c.waited.ensures c.instance_of-instance.ensures c.picked_event_for-picked_event.ensures.named c.given-given.ensures.handle c.task_of-call.ensures.is c.number-number.ensures c.waits_cancellable-cancellable.ensures c.picked_event_for-picked_event.ensures.is c.given-given.ensures.is c.in-None.ensures.choice c.in-None.ensures.new c.take.ensures 0 in
     record {
       does = does_same _ c.args.thread s u _ meets
           (waits_picks c.args.thread _ s _ u _ l c.waited.ensures shows meets)

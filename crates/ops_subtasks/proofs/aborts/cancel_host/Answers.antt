@@ -1,4 +1,4 @@
-use Rattle.machine_rules.proofs.CalmLemmas.{subtask_calm}
+use Rattle.machine_rules.proofs.CalmLemmas.{host_cancel_calm}
 use Rattle.std.proofs.Common.{None, ap, refl, sym, ◌∙◌}
 use Rattle.ops_subtasks.proofs.CancelLemmas.{aborts_steady, host_implements}
 use Rattle.ops_subtasks.proofs.EndLemmas.{finished, refused_on, refused_same, trapped_implements}
@@ -20,7 +20,7 @@ returns-in-Some g c =
     let m = mode_of c.args.sync in
     record {
       does = calm_same _ c.args.thread s s _
-          (λ d. subtask_calm d m n s.core (subtask.Host i))
+          (λ d. host_cancel_calm d m n s.core i)
           (λ d. host_implements m n d i s.core _ _ (sym c.was_cancelled.ensures ∙ c.if-was_cancelled.false)
           (trapped_implements m n d (subtask.Host i) s.core (cancel_aborts_host i s.core) _ (refused_same m n (subtask.Host i) s.core _ (aborts_steady i s.core) ∙ sym c.in-Some.ensures)))
           refl refl;
@@ -50,7 +50,7 @@ returns g c =
     let done = c.finish_cancel.ensures.does in
     record {
       does = calm_same _ c.args.thread s (v c.finish_cancel.new.w) _
-          (λ d. subtask_calm d m n s.core (subtask.Host i))
+          (λ d. host_cancel_calm d m n s.core i)
           (λ d. host_implements m n d i s.core _ _ (sym c.was_cancelled.ensures ∙ c.if-was_cancelled.false)
           (finished m c.args.thread d (subtask_id.Host c.args.work) (cancel_aborts_host i) s (v c.abort.new.w) c.abort.ensures _ _ (refused_same m n (subtask.Host i) s.core _ (aborts_steady i s.core) ∙ sym c.in_default.ensures) (done.implements d)))
           (done.kept.0 ∙ ap (λ (y : StateView). y.tags) c.abort.ensures) (done.kept.1 ∙ ap (λ (y : StateView). y.current) c.abort.ensures);

@@ -1,10 +1,12 @@
 use Rattle.core_primitives.specs.Preferences.{preference}
 use Rattle.machine_rules.specs.Finish.{Doer}
-use Rattle.ops_guests.proofs.CalmLemmas.{calm_picks}
-use Rattle.machine_rules.proofs.CalmLemmas.{named_calm}
-use Rattle.std.proofs.Common.{Some, ap, sym, ◌∙◌}
-use Rattle.ops_subtasks.proofs.CancelLemmas.{cancel_kept, found_implements, named_call, there_live}
-use Rattle.ops_subtasks.proofs.SubtaskLemmas.{named_implements}
+use Rattle.machine_rules.specs.Progress.{Progress}
+use Rattle.ops_guests.specs.Ended.{ended}
+use Rattle.ops_guests.specs.OpResult.{PicksFirst}
+use Rattle.ops_guests.specs.Steps.{label_of}
+use Rattle.std.proofs.Common.{Some, ap, subst, sym, ◌∙◌}
+use Rattle.ops_subtasks.proofs.CancelLemmas.{cancel_kept, found_implements, found_row, named_call, there_live}
+use Rattle.ops_subtasks.proofs.SubtaskLemmas.{named_implements, named_row}
 use Rattle.ops_subtasks.proofs.cancels.cancel.Goals as goal
 use Rattle.ops_subtasks.specs.Refused.{mode_of}
 use Rattle.machine_data.specs.Read.{is_joined, join_of}
@@ -37,7 +39,10 @@ returns-in-Guest-clause-does g c =
     (found_implements m n d q s.core _ _ (ap (λ (x : SubtaskId). is_joined (join_of (subtask_in s.tags x) s.core)) (sym c.in-Guest.is) ∙ (sym c.is_joined.ensures ∙ c.if-is_joined.false)) (done.implements d)) in
     record {
       implements = meets;
-      picks = λ d. calm_picks (preference s) (thread_of s c.args.thread) _ s.core _ _ (named_calm d m n c.args.handle s.core) (meets d);
+      picks = λ d. subst (λ (row : Progress). PicksFirst (preference s) row (label_of n c.cancel_guest.result) s.core c.cancel_guest.result (ended d n c.cancel_guest.result (g.W.View.view c.cancel_guest.new.w).core))
+          (sym (named_row n _ c.args.handle q (cancel_found_by d m n s.core) s.core c.instance_of-instance.ensures (ap (λ (x : SubtaskId). Some (subtask_in s.tags x)) (sym c.in-Guest.is) ∙ c.in-Some.ensures.is)
+          (cancel_kept m n d c.instance_of-instance.result c.args.handle s.core c.none_is_zero.ensures.works c.requires.calls)
+          ∙ found_row m n d q s.core (ap (λ (x : SubtaskId). is_joined (join_of (subtask_in s.tags x) s.core)) (sym c.in-Guest.is) ∙ (sym c.is_joined.ensures ∙ c.if-is_joined.false)))) (done.picks d);
       stays = done.stays;
       kept = done.kept;
     }
@@ -54,7 +59,10 @@ returns-in-Host-clause-does g c =
     (found_implements m n d q s.core _ _ (ap (λ (x : SubtaskId). is_joined (join_of (subtask_in s.tags x) s.core)) (sym c.in-Host.is) ∙ (sym c.is_joined.ensures ∙ c.if-is_joined.false)) (done.implements d)) in
     record {
       implements = meets;
-      picks = λ d. calm_picks (preference s) (thread_of s c.args.thread) _ s.core _ _ (named_calm d m n c.args.handle s.core) (meets d);
+      picks = λ d. subst (λ (row : Progress). PicksFirst (preference s) row (label_of n c.cancel_host.result) s.core c.cancel_host.result (ended d n c.cancel_host.result (g.W.View.view c.cancel_host.new.w).core))
+          (sym (named_row n _ c.args.handle q (cancel_found_by d m n s.core) s.core c.instance_of-instance.ensures (ap (λ (x : SubtaskId). Some (subtask_in s.tags x)) (sym c.in-Host.is) ∙ c.in-Some.ensures.is)
+          (cancel_kept m n d c.instance_of-instance.result c.args.handle s.core c.none_is_zero.ensures.works c.requires.calls)
+          ∙ found_row m n d q s.core (ap (λ (x : SubtaskId). is_joined (join_of (subtask_in s.tags x) s.core)) (sym c.in-Host.is) ∙ (sym c.is_joined.ensures ∙ c.if-is_joined.false)))) (done.picks d);
       stays = done.stays;
       kept = same_rest s (g.W.View.view c.cancel_host.new.w) done.kept;
     }

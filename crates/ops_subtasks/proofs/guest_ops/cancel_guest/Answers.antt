@@ -1,14 +1,14 @@
 use Rattle.std.proofs.Common.{ap, rules, sym, ◌∙◌}
-use Rattle.std.specs.Prelude.{Bool, Option, if◌then◌else◌, is_some, not, ◌≡◌}
+use Rattle.std.specs.Prelude.{Bool, Option, if◌then◌else◌, is_some, not, ◌&&◌, ◌≡◌}
 use Rattle.ops_subtasks.proofs.guest_ops.cancel_guest.Goals as goal
 use Rattle.ops_subtasks.specs.Refused.{mode_of}
 use Rattle.ops_subtasks.specs.Rules.{cancels_ended, cancels_guest}
-use Rattle.machine_data.specs.Read.{is_at, is_callback_yield, was_started}
+use Rattle.machine_data.specs.Read.{cancel_was_asked, is_at, is_callback_yield, is_nil, is_second, was_started}
 use Rattle.machine_data.specs.declared.records.Subtask.TheVariants as subtask
 use Rattle.machine_data.specs.declared.statuses.Status.{Status}
 use Rattle.ops_guests.proofs.DoesLemmas.{does_rule, same_rest}
 use Rattle.ops_guests.specs.Does.{SameNames}
-use Rattle.machine_rules.specs.Cancels.{AlreadyEnded, CallbackWaits, CallbackYields, CancelCase, OtherwiseRuns, StartNotRun, cancel_case, cancel_guest_by, is_callback_wait}
+use Rattle.machine_rules.specs.Cancels.{AlreadyEnded, AskedBefore, CallbackYields, CancelCase, OtherwiseRuns, StartNotRun, ThreadWaits, cancel_case, cancel_guest_by, cancellable}
 use Rattle.core_primitives.specs.StateView.{call_of, thread_of}
 
 pub returns-then-is_some-clause-does : goal.returns-then-is_some-clause-does

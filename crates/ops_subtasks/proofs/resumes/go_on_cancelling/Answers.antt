@@ -1,5 +1,4 @@
-use Rattle.machine_data.specs.declared.records.OpProgress.TheVariants as op_progress
-use Rattle.machine_rules.proofs.CalmLemmas.{cancel_calm}
+use Rattle.machine_rules.proofs.CalmLemmas.{cancelling_calm}
 use Rattle.std.proofs.Common.{None, ap, subst, sym, ◌∙◌}
 use Rattle.ops_subtasks.proofs.EndLemmas.{finished, refused_on, trapped_implements}
 use Rattle.ops_subtasks.proofs.ResumeLemmas.{resumed_as, resumed_refused, resumed_runs}
@@ -38,7 +37,7 @@ returns-in-Some g c =
     let same = c.refusal_after.ensures.same in
     record {
       does = calm_same _ c.args.thread s (v c.refusal_after.new.w) _
-          (λ d. cancel_calm d (mode_of c.args.sync) (thread_of s c.args.thread) 0 s.core (op_progress.Cancels (subtask_in s.tags c.args.subtask)))
+          (λ d. cancelling_calm d (mode_of c.args.sync) (thread_of s c.args.thread) 0 s.core (subtask_in s.tags c.args.subtask))
           (λ d. subst (λ (y : StateView). Implements (after_cancel_by d m n q (cancel_resumed n q s.core)) s.core (op_result.Traps c.in-Some.trap) y.core) (sym same)
           (trapped_implements m n d q s.core (cancel_resumed n q s.core) _ (resumed_refused m n q s.core ∙ sym c.in-Some.ensures.is)))
           (ap (λ (y : StateView). y.tags) same) (ap (λ (y : StateView). y.current) same);
@@ -55,7 +54,7 @@ returns g c =
     let done = c.finish_cancel.ensures.does in
     record {
       does = calm_same _ c.args.thread s (v c.finish_cancel.new.w) _
-          (λ d. cancel_calm d (mode_of c.args.sync) (thread_of s c.args.thread) 0 s.core (op_progress.Cancels (subtask_in s.tags c.args.subtask)))
+          (λ d. cancelling_calm d (mode_of c.args.sync) (thread_of s c.args.thread) 0 s.core (subtask_in s.tags c.args.subtask))
           (λ d. finished m c.args.thread d c.args.subtask (cancel_resumed n q) s (v c.resume_canceller.new.w) resumed _ _ (resumed_refused m n q s.core ∙ sym c.in_default.ensures.is) (done.implements d))
           (done.kept.0 ∙ ap (λ (y : StateView). y.tags) resumed) (done.kept.1 ∙ ap (λ (y : StateView). y.current) resumed);
     }

@@ -7,7 +7,7 @@ use Rattle.ops_moves.specs.Idle.{IsJoinThere}
 use Rattle.machine_rules.specs.Places.{Placed}
 use Rattle.ops_turns.proofs.WorkedLemmas.{worked_is}
 use Rattle.ops_turns.specs.Worked.{tracked_entry_group}
-use Rattle.ops_turns.proofs.SteppedLemmas.{host_makes, left_is, next_is, of_full, push_makes, take_added}
+use Rattle.ops_turns.proofs.SteppedLemmas.{host_makes, left_is, left_preference, next_is, of_full, push_makes, take_added}
 use Rattle.ops_turns.proofs.TakenLemmas.{finds, host_joined, host_live, host_placed, taken}
 use Rattle.ops_turns.proofs.takes.step_take.Goals as goal
 use Rattle.machine_data.specs.Labels.{choice_of}
@@ -16,7 +16,6 @@ use Rattle.ops_guests.specs.Steps.{label_of}
 use Rattle.ops_guests.specs.declared.op_result.OpResult.{OpResult}
 use Rattle.machine_rules.specs.Progress.{Progress}
 use Rattle.machine_rules.specs.Takes.{thread_taken}
-use Rattle.core_primitives.specs.Preferences.{preference}
 use Rattle.machine_rules.specs.Picks.{Preference}
 use Rattle.ops_guests.specs.OpResult.{PicksFirst}
 use Rattle.ops_turns.specs.StepResult.{Added}
@@ -65,7 +64,7 @@ returns-in-Some-default-Thread-clause-took g c =
     let row : OpResult → Progress = λ r. thread_taken q.mark (thread_of u q.thread) (choice_of (label_of (thread_of u q.thread) r)) u.core (place_of (thread_of u q.thread) u.core) in
     of_full c.step_thread.result (λ made. let h = c.step_thread.ensures.shown made in
     take_added c.args.component.now c.args.ended q.mark q.thread (thread_of s q.thread) s (with_current (Some q.thread) u) h.left t h.op_result c.step_thread.result before after
-    (ap (λ (x : StateView). thread_of x q.thread) left) (ap (λ (x : StateView). x.core) left) next h.implements (subst (λ (f : Preference). PicksFirst f (row h.op_result) (label_of (thread_of u q.thread) h.op_result) u.core h.op_result h.left.core) (ap preference left) h.picks) h.stays h.shown) c.step_thread.ensures.full (λ same. same)
+    (ap (λ (x : StateView). thread_of x q.thread) left) (ap (λ (x : StateView). x.core) left) next h.implements (subst (λ (f : Preference). PicksFirst f (row h.op_result) (label_of (thread_of u q.thread) h.op_result) u.core h.op_result h.left.core) (left_preference q.mark s u left) h.picks) h.stays h.shown) c.step_thread.ensures.full (λ same. same)
 
 -- ---- A push
 

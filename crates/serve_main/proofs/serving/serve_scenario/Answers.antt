@@ -19,9 +19,9 @@ drive-driven-requires c =
     record {
       may = may_open _ _ _ c.in-Ok.run' c.in-Ok.ensures.turn c.in_ok-main.main
           (subst (λ (qs : List Request). AllTaken x.component qs) (sym (ap (λ (a : Asked). a.requests) c.in_ok-main.ensures.asked)) c.requires.taken)
-          c.requires.runnable.component s _ c.run_concurrent.ensures.store _ c.requires.runnable.codes c.len.result x.handles x.table (rw c.len.ensures (omega arith))
+          c.requires.runnable.component s _ c.run_concurrent.ensures.store _ c.requires.runnable.codes x.rules c.len.result x.handles x.table (rw c.len.ensures (omega arith))
           c.in_ok-store.ensures.state c.in_ok-store.ensures.works (c.in_ok-main.ensures.knows _)
-          (fresh_asked c.len.result x.handles x.table s.state c.in_ok-store.ensures.state);
+          (fresh_asked x.rules c.len.result x.handles x.table s.state c.in_ok-store.ensures.state);
     }
 
 pub returns : goal.returns

@@ -23,9 +23,9 @@ drive-driven-requires c =
     let x = c.args.scenario.now in
     record {
       may = may_open _ _ _ c.in-Ok.run' c.in-Ok.ensures.turn c.new-main.result (rw (c.new-main.ensures.ops, c.as_slice.ensures) c.requires.main) c.requires.component c.keep_notices.new.self _ c.run_concurrent.ensures.store _
-          c.requires.codes c.len.result x.handles x.table (rw c.len.ensures (omega arith)) (rw c.in_ok-keep_notices.ensures.ok c.in_ok-store.ensures.state) (rw c.in_ok-keep_notices.ensures.ok c.in_ok-store.ensures.works)
+          c.requires.codes x.rules c.len.result x.handles x.table (rw c.len.ensures (omega arith)) (rw c.in_ok-keep_notices.ensures.ok c.in_ok-store.ensures.state) (rw c.in_ok-keep_notices.ensures.ok c.in_ok-store.ensures.works)
           (c.new-main.ensures.knows _)
-          (fresh_asked c.len.result x.handles x.table c.keep_notices.new.self.state (rw c.in_ok-keep_notices.ensures.ok c.in_ok-store.ensures.state));
+          (fresh_asked x.rules c.len.result x.handles x.table c.keep_notices.new.self.state (rw c.in_ok-keep_notices.ensures.ok c.in_ok-store.ensures.state));
     }
 
 pub returns-clause-free : goal.returns-clause-free

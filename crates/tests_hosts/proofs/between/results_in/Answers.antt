@@ -1,4 +1,5 @@
 -- The store has its instance, and nothing was made in it.
+use Rattle.machine_data.specs.declared.scenario.Version.TheVariants as version
 use Rattle.tests_hosts.proofs.between.results_in.Goals as goal
 use Rattle.std.proofs.Common.{ap, refl, ℕ}
 use Rattle.std.specs.Prelude.{IsSome, is_some}
@@ -7,7 +8,7 @@ use Rattle.machine_data.specs.Core.{fresh, untouched}
 use Rattle.machine_data.specs.Maps.{empty, get}
 use Rattle.ops_turns.proofs.FreshLemmas.{given_fresh}
 
-instance_unchecked : (limit room : ℕ) → IsSome (get (fresh 1 limit room).instances 0)
+instance_unchecked : (limit room : ℕ) → IsSome (get (fresh version.One 1 limit room).instances 0)
 unfolding fresh
 instance_unchecked limit room = ap is_some (get-insert_same empty 0 untouched)
 

@@ -1,4 +1,5 @@
 -- The scenario's opening state is in order, and a run keeps it so.
+use Rattle.machine_data.specs.declared.scenario.Version.TheVariants as version
 use Rattle.tests_hosts.proofs.midway.drive.Goals as goal
 use Rattle.std.proofs.Common.{ap, arith, ◌∙◌, ◌≡◌}
 use Rattle.std.specs.Prelude.{Ok}
@@ -11,7 +12,7 @@ drive-driven-requires g c =
     let x = c.args.scenario.now in
     record {
       may = may_open _ _ _ c.in-Ok.run' c.in-Ok.ensures.turn c.new-main.result (rw (c.new-main.ensures.ops, c.as_slice.ensures) c.requires.runnable.main) c.requires.runnable.component c.args.store.now _ c.run_concurrent.ensures.store _
-          c.requires.runnable.codes 1 100000 1000000 (let one = c.requires.one in omega (arith, one)) c.requires.fresh c.requires.works (c.new-main.ensures.knows _) c.requires.groups;
+          c.requires.runnable.codes version.One 1 100000 1000000 (let one = c.requires.one in omega (arith, one)) c.requires.fresh c.requires.works (c.new-main.ensures.knows _) c.requires.groups;
     }
 
 pub returns-clause-order : goal.returns-clause-order

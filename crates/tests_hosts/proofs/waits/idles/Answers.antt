@@ -1,4 +1,5 @@
 -- The scenario's opening state is in order, and so is the state in which nothing goes on.
+use Rattle.machine_data.specs.declared.scenario.Version.TheVariants as version
 use Rattle.std.proofs.Common.{ap, arith, subst, ◌∙◌}
 use Rattle.tests_hosts.proofs.WaitLemmas.{given_after, given_zero, idle_turn}
 use Rattle.tests_hosts.proofs.waits.idles.Goals as goal
@@ -12,7 +13,7 @@ drive-requires g c =
     let x = c.args.scenario.now in
     record {
       may = may_open _ _ _ c.in-Ok.run' c.in-Ok.ensures.turn c.new-main.result (rw (c.new-main.ensures.ops, c.as_slice.ensures) c.requires.runnable.main) c.requires.runnable.component c.args.store.now _ c.run_concurrent.ensures.store _
-          c.requires.runnable.codes 2 100000 1000000 (let two = c.requires.two in omega (arith, two)) c.requires.fresh c.requires.works (c.new-main.ensures.knows _) c.requires.groups;
+          c.requires.runnable.codes version.One 2 100000 1000000 (let two = c.requires.two in omega (arith, two)) c.requires.fresh c.requires.works (c.new-main.ensures.knows _) c.requires.groups;
     }
 
 pub returns-clause-turn : goal.returns-clause-turn

@@ -1,4 +1,5 @@
 -- Two instances were made.
+use Rattle.machine_data.specs.declared.scenario.Version.TheVariants as version
 use Rattle.tests_hosts.proofs.WaitLemmas.{few_then, none_then, two_made}
 use Rattle.tests_hosts.proofs.waits.store_of_two.Goals as goal
 use Rattle.std.proofs.Common.{ap}
@@ -17,5 +18,5 @@ pub returns-clause-state : goal.returns-clause-state
 returns-clause-state g c = rw (c.add_instance-2.ensures, c.add_instance.ensures, c.new-store.ensures.state) (ap (λ (u : Core). with_core u nothing) two_made)
 
 pub returns-clause-groups : goal.returns-clause-groups
-returns-clause-groups g c = fresh_asked 2 100000 1000000 c.add_instance-2.new.store.state
+returns-clause-groups g c = fresh_asked version.One 2 100000 1000000 c.add_instance-2.new.store.state
     (rw (c.add_instance-2.ensures, c.add_instance.ensures, c.new-store.ensures.state) (ap (λ (u : Core). with_core u nothing) two_made))

@@ -1,4 +1,5 @@
 -- The new store is in order at main's turn.
+use Rattle.machine_data.specs.declared.scenario.Version.TheVariants as version
 use Rattle.store_works.specs.declared.scripted.ScriptedHost.{ScriptedHost}
 use Rattle.std.proofs.Common.{ap}
 use Rattle.tests_surface.proofs.DriveLemmas.{opens, opens_current, opens_given}
@@ -16,4 +17,4 @@ pub returns-clause-current : goal.returns-clause-current
 returns-clause-current g c = opens_current c.new_store.result.state c.new_store.ensures.state
 
 pub returns-clause-hosts : goal.returns-clause-hosts
-returns-clause-hosts g c = new_holds (λ (w : ScriptedHost). w.left) c.new_store.result 1 100000 1000000 c.new_store.ensures.works (ap (λ (v : StateView). v.core) c.new_store.ensures.state)
+returns-clause-hosts g c = new_holds (λ (w : ScriptedHost). w.left) c.new_store.result version.One 1 100000 1000000 c.new_store.ensures.works (ap (λ (v : StateView). v.core) c.new_store.ensures.state)

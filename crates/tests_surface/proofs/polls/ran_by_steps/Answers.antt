@@ -1,4 +1,5 @@
 -- The scenario's opening state is in order.
+use Rattle.machine_data.specs.declared.scenario.Version.TheVariants as version
 use Rattle.std.proofs.Common.{arith}
 use Rattle.tests_surface.proofs.polls.ran_by_steps.Goals as goal
 use Rattle.ops_turns.proofs.FreshLemmas.{given_fresh}
@@ -8,7 +9,7 @@ pub polled_by_steps-requires-clause-may : goal.polled_by_steps-requires-clause-m
 polled_by_steps-requires-clause-may g c =
     let x = c.args.scenario.now in
     may_open _ _ _ c.in-Ok.run' c.in-Ok.ensures.turn c.new-main.result (rw (c.new-main.ensures.ops, c.as_slice.ensures) c.requires.runnable.main) c.requires.runnable.component c.args.store.now _ c.run_concurrent.ensures.store _
-    c.requires.runnable.codes 1 100000 1000000 (let one = c.requires.one in omega (arith, one)) c.requires.fresh c.requires.works (c.new-main.ensures.knows _) c.requires.groups
+    c.requires.runnable.codes version.One 1 100000 1000000 (let one = c.requires.one in omega (arith, one)) c.requires.fresh c.requires.works (c.new-main.ensures.knows _) c.requires.groups
 
 pub polled_by_steps-requires-clause-given : goal.polled_by_steps-requires-clause-given
-polled_by_steps-requires-clause-given g c = rw (c.run_concurrent.ensures.store, c.requires.fresh) (given_fresh 1 100000 1000000)
+polled_by_steps-requires-clause-given g c = rw (c.run_concurrent.ensures.store, c.requires.fresh) (given_fresh version.One 1 100000 1000000)

@@ -16,9 +16,9 @@ drive-requires g c =
     let x = c.args.self.now.scenario in
     record {
       may = may_open _ _ _ c.in-Ok.run' c.in-Ok.ensures.turn c.new-main.result tt c.args.self.now.formed c.in_ok-store.store _ c.run_concurrent.ensures.store _
-          c.args.self.now.codes c.len.result x.handles x.table (rw c.len.ensures (omega arith)) c.in_ok-store.ensures.state c.in_ok-store.ensures.works
+          c.args.self.now.codes x.rules c.len.result x.handles x.table (rw c.len.ensures (omega arith)) c.in_ok-store.ensures.state c.in_ok-store.ensures.works
           (spawns_none c.new-main.result.spawns.items _ c.new-main.ensures.spawns)
-          (fresh_asked c.len.result x.handles x.table c.in_ok-store.store.state c.in_ok-store.ensures.state);
+          (fresh_asked x.rules c.len.result x.handles x.table c.in_ok-store.store.state c.in_ok-store.ensures.state);
     }
 
 pub returns : goal.returns

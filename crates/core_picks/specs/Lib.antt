@@ -1,0 +1,3 @@
+pub mod Arrived
+pub mod Chains
+pub mod Rules
