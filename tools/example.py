@@ -221,7 +221,8 @@ class Scenario:
     def term(self):
         instances = listed([instance_term(instance) for instance in self.instances])
         component = f'record {{ instances = {instances}; hosts = {listed(self.hosts)} }}'
-        return (f'record {{ handles = {self.handles}; table = {self.table}; idle = idle_line.{self.idle.capitalize()}; '
+        return (f'record {{ version = version.One; handles = {self.handles}; table = {self.table}; '
+                f'idle = idle_line.{self.idle.capitalize()}; '
                 f'component = {component}; names = []; main = {listed(self.main)}; aborters = [] }}')
 
 

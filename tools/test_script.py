@@ -421,7 +421,7 @@ class WithToolchain(unittest.TestCase):
         self.assertEqual(self.call('runs', '1000', 'texts', 'reports')[0], 3)
         for file in pathlib.Path(TOP, 'examples').glob('*.report'):
             self.assertEqual(pathlib.Path(self.room, 'reports', file.name).read_bytes(), file.read_bytes())
-        self.assertEqual(self.call('run', '7', text='scenario 2\n')[:2], (3, 'bad scenario line 1\n'))
+        self.assertEqual(self.call('run', '7', text='scenario 3\n')[:2], (3, 'bad scenario line 1\n'))
         self.assertEqual(self.call('run', '7', text='x' * 1_048_577)[:2], (6, 'text too long\n'))
         text = 'scenario 1\nhandles 9\ntable 9000\nidle trap\ninstance a\nexport f callback 0\n' + 'set r1 1\n' * 4000
         text += 'ret 1\nexit\nmain\n' + 'start a.f\n' * 40 + 'answer 1\nend\n'

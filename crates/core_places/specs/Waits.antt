@@ -8,6 +8,7 @@ use Rattle.core_records.specs.declared.parts.CoreParts.{CoreParts}
 use Rattle.core_records.specs.declared.thread_records.GuestThread.{GuestThread}
 use Rattle.machine_data.specs.declared.records.Place.{Place}
 use Rattle.table_links.specs.Links.{Spot, is_made, list_of}
+use Rattle.table_links.specs.declared.links.Node.{Node}
 use Rattle.table_lists.specs.Index.{Refiles}
 use Rattle.table_lists.specs.declared.ordered_lists.OrderKey.{OrderKey}
 
@@ -15,10 +16,13 @@ use Rattle.table_lists.specs.declared.ordered_lists.OrderKey.{OrderKey}
 abbrev pub wait_chain_at : CoreParts → GuestThread → Place → Option ℕ
 wait_chain_at a g p = option_and_then (wait_chain (bare (parts_of a))) (waits_in p g.thread.call)
 
--- what it is to be there; none if it has no node for that
+-- what it is to be there, with this node
+abbrev pub filing_at : CoreParts → (rep : ℕ) → GuestThread → Place → Node → WaitFiling
+filing_at a rep g p node = record { node = node; chain = wait_chain_at a g p; order_key = member_order_key g.entry rep }
+
+-- and none if it has no node for that
 abbrev pub wait_filing : CoreParts → (rep : ℕ) → GuestThread → Place → Option WaitFiling
-wait_filing a rep g p =
-    option_map (λ node. record { node = node; chain = wait_chain_at a g p; order_key = member_order_key g.entry rep }) g.wait
+wait_filing a rep g p = option_map (λ node. filing_at a rep g p node) g.wait
 
 -- Its node was made, and the chain is live.
 abbrev pub MayRefile : List (Spot OrderKey) → Option WaitFiling → Type 0

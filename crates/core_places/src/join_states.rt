@@ -176,19 +176,7 @@ fn is_apart(parts: &CoreParts, subtask: SubtaskId) -> bool
     }
 }
 
-// The subtask is in no set from now on; one that is in none is left as it is.
-#[inline(always)]
-fn part(parts: &mut CoreParts, subtask: SubtaskId)
-    requires { IsSoundCore parts.old }
-    ensures sound { IsSoundCore parts.new }
-    ensures new { seen parts.new ≡ on_core (set_join (subtask_in (seen parts.old).tags subtask) joins.Nowhere) (seen parts.old) }
-{
-    if !is_apart(parts, subtask) {
-        rejoin(parts, subtask, JoinId::Nowhere);
-    }
-}
-
-/// Joins the subtask to this set, to the own set of a thread, or to none.
+/// Joins the subtask to this set, to the own set of a thread, or to none. One that is in none is left there.
 #[inline(always)]
 pub fn set_join(parts: &mut CoreParts, subtask: SubtaskId, join: JoinId)
     requires { IsSoundCore parts.old }
@@ -196,7 +184,11 @@ pub fn set_join(parts: &mut CoreParts, subtask: SubtaskId, join: JoinId)
     ensures new { seen parts.new ≡ with_join subtask join (seen parts.old) }
 {
     match join {
-        JoinId::Nowhere => part(parts, subtask),
+        JoinId::Nowhere => {
+            if !is_apart(parts, subtask) {
+                rejoin(parts, subtask, JoinId::Nowhere);
+            }
+        }
         JoinId::Set(_) | JoinId::Watched(_) => rejoin(parts, subtask, join),
     }
 }

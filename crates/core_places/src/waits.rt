@@ -1,6 +1,6 @@
 //! The waiting threads of calls: where a cancel may take any of these they are filed beside the waiters of sets.
-ghost use Rattle.std.specs.Prelude.{◌≡◌, Ok};
-ghost use Rattle.core_places.specs.Waits.{MayRefile, RefilesWait, wait_chain_at, wait_filing};
+ghost use Rattle.std.specs.Prelude.{◌≡◌, Ok, Some};
+ghost use Rattle.core_places.specs.Waits.{MayRefile, RefilesWait, filing_at, wait_filing};
 ghost use Rattle.core_records.specs.Kinds.{item_of};
 ghost use Rattle.core_records.specs.Seen.{IsSoundCore};
 ghost use Rattle.task_table.specs.TableAnswers.{item_at};
@@ -20,18 +20,31 @@ pub(crate) struct WaitFiling {
     pub order_key: OrderKey,
 }
 
-// The chain of the waiting threads of the thread's call, if the thread waits from now on.
+// What a thread that has this node is to be among the waiting ones of its call. It isn't inlined: few threads have one.
 #[inline(never)]
-fn chain_for(parts: &CoreParts, id: ThreadId, thread: &GuestThread, to: &Place) -> Option<usize>
+fn filing_for(
+    parts: &CoreParts,
+    id: ThreadId,
+    thread: &GuestThread,
+    node: Node,
+    to: &Place,
+) -> WaitFiling
     requires sound { IsSoundCore parts.now }
     requires there { Ok thread.now ≡ item_at item_of parts.now.threads id.rep id.serial }
-    ensures { result ≡ wait_chain_at parts.now thread.now to.now }
+    ensures { result ≡ filing_at parts.now id.rep thread.now to.now node }
 {
-    // only the contract speaks of `id`
-    let _id = id;
+    let order_key = member_order_key(thread.entry, id.rep());
     match to {
-        Place::Waiting { .. } => parts.calls.there::<GuestTaskKey>(thread.task).waits,
-        _ => None,
+        Place::Waiting { .. } => WaitFiling {
+            node,
+            chain: parts.calls.there::<GuestTaskKey>(thread.task).waits,
+            order_key,
+        },
+        _ => WaitFiling {
+            node,
+            chain: None,
+            order_key,
+        },
     }
 }
 
@@ -48,13 +61,18 @@ pub(crate) fn wait_filing(
     ensures { result ≡ wait_filing parts.now id.rep thread.now to.now }
 {
     match thread.wait {
-        Some(node) => Some(WaitFiling {
-            node,
-            chain: chain_for(parts, id, thread, to),
-            order_key: member_order_key(thread.entry, id.rep()),
-        }),
+        Some(node) => Some(filing_for(parts, id, thread, node, to)),
         None => None,
     }
+}
+
+// Files a thread that has a node among the waiting ones of its call. It isn't inlined, as few threads have one.
+#[inline(never)]
+fn refile(waits: &mut OrderedLists, filing: WaitFiling)
+    requires { MayRefile waits.old (Some filing) }
+    ensures { RefilesWait waits.old waits.new (Some filing) }
+{
+    refresh_key(waits, filing.node, filing.chain, filing.order_key);
 }
 
 /// Files the thread as it is to be among the waiting ones of its call.
@@ -64,6 +82,6 @@ pub(crate) fn refile_wait(waits: &mut OrderedLists, wait: Option<WaitFiling>)
     ensures { RefilesWait waits.old waits.new wait }
 {
     if let Some(filing) = wait {
-        refresh_key(waits, filing.node, filing.chain, filing.order_key);
+        refile(waits, filing);
     }
 }

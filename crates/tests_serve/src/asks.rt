@@ -224,7 +224,7 @@ fn a_main_gives_its_host_back(rt: HostRuntime) {
 fn texts_and_names_are_refused(rt: HostRuntime) {
     assert!(rt;
         matches!(
-            Hosted::read(rt.alloc(), b"scenario 2\n"),
+            Hosted::read(rt.alloc(), b"scenario 3\n"),
             Err(HostError::BadLine(1))
         )
     );
