@@ -66,7 +66,7 @@ pub fn new_handle(parts: &CoreParts, instance: u32) -> u32
     ensures { result ≡ new_handle instance (seen parts.now).core }
 {
     match core_records::instance(parts, instance) {
-        Some(entry) => entry.handles.next(),
+        Some(entry) => entry.handles.next_handle(),
         None => 1,
     }
 }
@@ -76,7 +76,7 @@ pub fn new_thread_handle(parts: &CoreParts, instance: u32) -> u32
     ensures { result ≡ new_thread_handle instance (seen parts.now).core }
 {
     match core_records::instance(parts, instance) {
-        Some(entry) => entry.thread_handles.next(),
+        Some(entry) => entry.thread_handles.next_handle(),
         None => 1,
     }
 }

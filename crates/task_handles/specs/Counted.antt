@@ -13,10 +13,15 @@ module _ {X : Type 0} where
   pub record CountsHandle (c : Counter) (t : Handles X) (handle : ℕ) : Type 0 where
     pub counted : IsSome (held_by t handle) → 0 < c.live
 
-  -- where the live count was the sum of the live handles of this table and of others, it is so again
+  -- beside each live handle of the table the counter counts a reservation
+  abbrev pub CountsReserved : Counter → Handles X → Type 0
+  CountsReserved c t = live_count t < c.live
+
+  -- if the live count was the sum of the live handles of this table and of others, and of reservations, it is so again
   abbrev pub KeepsSum : Handles X → Handles X → Counter → Counter → Type 0
   KeepsSum old new before after =
-      (others : List ℕ) → IsSumOf before (live_count old ∷ others) → IsSumOf after (live_count new ∷ others)
+      (others : List ℕ) (reserved : ℕ) → IsSumOf before (live_count old ∷ others) reserved →
+      IsSumOf after (live_count new ∷ others) reserved
 
   -- an insert of x gave a handle that wasn't live, and the counter counts it
   pub record Inserts (x : X) (old new : Handles X) (before after : Counter) (handle : ℕ) : Type 0 where
@@ -29,6 +34,10 @@ module _ {X : Type 0} where
     pub counter : after ≡ raised before
     pub counts : Counts after new
     pub keeps_sum : KeepsSum old new before after
+
+  -- a reservation became that of a new handle for x: as if it was released and the handle inserted after that
+  abbrev pub InsertsReserved : X → Handles X → Handles X → Counter → Counter → ℕ → Type 0
+  InsertsReserved x old new before after handle = Inserts x old new (lowered before) after handle
 
   -- a live handle was removed, and the counter no longer counts it
   pub record Removes (handle : ℕ) (old new : Handles X) (before after : Counter) : Type 0 where

@@ -14,6 +14,17 @@ raised c = record c { live = c.live + 1 }
 abbrev pub lowered : Counter → Counter
 lowered c = record c { live = c.live - 1 }
 
--- the live count is the sum of the live handles of these tables, each of which is here by their number
-abbrev pub IsSumOf : Counter → List ℕ → Type 0
-IsSumOf c tables = c.live ≡ sum tables
+-- the live count is the sum of the live handles of these tables, each of which is here by their number, and of the reservations that
+-- stand
+abbrev pub IsSumOf : Counter → List ℕ → ℕ → Type 0
+IsSumOf c tables reserved = c.live ≡ sum tables + reserved
+
+-- one reservation more stands
+pub record Reserves (before after : Counter) : Type 0 where
+  pub counter : after ≡ raised before
+  pub sum : (tables : List ℕ) (reserved : ℕ) → IsSumOf before tables reserved → IsSumOf after tables (reserved + 1)
+
+-- one reservation less stands
+pub record Releases (before after : Counter) : Type 0 where
+  pub counter : after ≡ lowered before
+  pub sum : (tables : List ℕ) (reserved : ℕ) → IsSumOf before tables (reserved + 1) → IsSumOf after tables reserved

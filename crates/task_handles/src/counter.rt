@@ -1,12 +1,13 @@
-ghost use Rattle.std.specs.Prelude.{◌≡◌, ◌≤◌, ◌<◌, ◌↔◌, IsTrue};
-ghost use Rattle.task_handles.specs.Counter.{raised, lowered};
+ghost use Rattle.std.specs.Prelude.{◌≡◌, ◌≤◌, ◌<◌, ◌↔◌, IsTrue, false, true};
+ghost use Rattle.task_handles.specs.Counter.{Releases, Reserves, raised, lowered};
 
 use crate::MAX_HANDLES;
 use std::marker::Model;
 
 /// How many handles are live over all tables that share this counter, and how many may be.
 ///
-/// The live count is the sum of the live handles of those tables: each call of a table that makes or removes a handle keeps it so.
+/// The live count is the sum of the live handles of those tables and of the reservations that stand: each call of a table that makes
+/// or removes a handle keeps it so. A reservation counts a handle before a table gives it.
 #[derive(Drop)]
 pub struct HandleCounter {
     limit: u32,
@@ -59,6 +60,28 @@ impl HandleCounter {
         self.limit = limit;
     }
 
+    /// Reserves a handle, which counts as a live one from now on. Returns false exactly if as many handles are live as the limit, or
+    /// more; then the counter is as before.
+    pub fn reserve(&mut self) -> bool
+        ensures refused { (result ≡ false) ↔ (self.old.limit ≤ self.old.live) }
+        ensures reserved { result ≡ true → Reserves self.old self.new }
+        ensures kept { result ≡ false → self.new ≡ self.old }
+    {
+        if self.is_full() {
+            return false;
+        }
+        self.raise();
+        true
+    }
+
+    /// Gives up a reservation, which no longer counts.
+    pub fn release(&mut self)
+        requires { 0 < self.old.live }
+        ensures { Releases self.old self.new }
+    {
+        self.lower();
+    }
+
     // Whether no more handle may be made.
     pub(crate) fn is_full(&self) -> bool
         ensures full { IsTrue result ↔ (self.now.limit ≤ self.now.live) }
@@ -69,7 +92,7 @@ impl HandleCounter {
 
     // Counts a new handle.
     pub(crate) fn raise(&mut self)
-        requires { self.old.live < self.old.limit }
+        requires { self.old.live < MAX_HANDLES }
         ensures { self.new ≡ raised self.old }
     {
         self.live += 1;
@@ -78,7 +101,8 @@ impl HandleCounter {
     // No longer counts a handle.
     pub(crate) fn lower(&mut self)
         requires { 0 < self.old.live }
-        ensures { self.new ≡ lowered self.old }
+        ensures counter { self.new ≡ lowered self.old }
+        ensures bound { self.old.live ≤ MAX_HANDLES }
     {
         self.live -= 1;
     }

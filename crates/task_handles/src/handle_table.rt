@@ -109,11 +109,11 @@ impl HandleTable {
     }
 
     /// Returns the handle that the next insert gives.
-    pub fn next(&self) -> u32
+    pub fn next_handle(&self) -> u32
         ensures handle { result ≡ next_handle self.now }
         ensures whole { IsWhole self.now }
     {
-        self.slots.next()
+        self.slots.next_handle()
     }
 
     /// Returns the subtask that a handle names, and whether it is a host's.

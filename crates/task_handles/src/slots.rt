@@ -1,11 +1,12 @@
 ghost use Rattle.std.specs.Prelude.{◌≡◌, ◌≤◌, ◌<◌, ◌↔◌, ◌-◌, IsTrue, slice_set, IsSome, Err, ◌≢◌, IfOk, OnErr, OnOk, None};
 ghost use Rattle.task_handles.specs.Handles.{held_by, live_count, IsWhole, next_handle, no_handles, with_held, without};
-ghost use Rattle.task_handles.specs.Counted.{Counts, Inserts, Removes, Unchanged};
+ghost use Rattle.task_handles.specs.Counted.{Counts, CountsReserved, Inserts, InsertsReserved, Removes, Unchanged};
 ghost use Rattle.task_handles.specs.Slots.{value_at as value_at_handle, slot_at, link};
 
 use crate::MAX_HANDLES;
 use crate::counter::HandleCounter;
 use crate::kinds::HandleError;
+use machine_data::NoMemory;
 use std::alloc::{AllocError, Global};
 use std::marker::Model;
 
@@ -64,7 +65,7 @@ impl<T: Copy> Slots<T> {
     }
 
     // The handle that the next insert gives.
-    pub fn next(&self) -> u32
+    pub fn next_handle(&self) -> u32
         ensures handle { result ≡ next_handle self.now }
         ensures whole { IsWhole self.now }
     {
@@ -115,6 +116,25 @@ impl<T: Copy> Slots<T> {
         };
         counter.raise();
         Ok(handle)
+    }
+
+    // An insert that a reservation of the counter counts already: it becomes that of the handle.
+    pub fn insert_reserved(
+        &mut self,
+        counter: &mut HandleCounter,
+        value: T,
+    ) -> Result<u32, NoMemory>
+        requires { CountsReserved counter.old self.old }
+        ensures ok { IfOk result (λ handle. InsertsReserved value self.old self.new counter.old counter.new handle) }
+        ensures err { OnErr result (Unchanged self.old self.new counter.old counter.new) }
+    {
+        counter.lower();
+        let inserted = self.insert(value);
+        counter.raise();
+        match inserted {
+            Ok(handle) => Ok(handle),
+            Err(_) => Err(NoMemory),
+        }
     }
 
     // The removal of a live handle, which the counter no longer counts.

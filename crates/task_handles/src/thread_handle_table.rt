@@ -1,11 +1,12 @@
 ghost use Rattle.std.specs.Prelude.{◌≡◌, ◌≢◌, ◌≤◌, ◌↔◌, IfOk, OnOk, OnErr, Err};
 ghost use Rattle.task_handles.specs.Handles.{IsWhole, no_handles, held_by, next_handle};
-ghost use Rattle.task_handles.specs.Counted.{Counts, CountsHandle, Inserts, Removes, Unchanged};
+ghost use Rattle.task_handles.specs.Counted.{Counts, CountsHandle, CountsReserved, Inserts, InsertsReserved, Removes, Unchanged};
 ghost use Rattle.task_handles.specs.HeldItem.{thread_of};
 
 use crate::counter::HandleCounter;
 use crate::kinds::{HandleError, Rep};
 use crate::slots::Slots;
+use machine_data::NoMemory;
 use std::alloc::Global;
 use std::marker::Model;
 
@@ -59,6 +60,22 @@ impl ThreadHandleTable {
         self.slots.insert_counted(counter, rep)
     }
 
+    /// Gives a handle to a thread, which `rep` names in the table of entries, if a reservation of the counter stands: it becomes that
+    /// of the handle, so the limit isn't asked.
+    ///
+    /// `NoMemory` if the list can't grow; then table and counter are as before, and the reservation stands.
+    pub fn insert_reserved(
+        &mut self,
+        counter: &mut HandleCounter,
+        rep: Rep,
+    ) -> Result<u32, NoMemory>
+        requires { CountsReserved counter.old self.old }
+        ensures ok { IfOk result (λ handle. InsertsReserved rep self.old self.new counter.old counter.new handle) }
+        ensures err { OnErr result (Unchanged self.old self.new counter.old counter.new) }
+    {
+        self.slots.insert_reserved(counter, rep)
+    }
+
     /// Returns what a handle names, if it is live.
     pub fn get(&self, handle: u32) -> Option<Rep>
         ensures { result ≡ held_by self.now handle }
@@ -67,11 +84,11 @@ impl ThreadHandleTable {
     }
 
     /// Returns the handle that the next insert gives.
-    pub fn next(&self) -> u32
+    pub fn next_handle(&self) -> u32
         ensures handle { result ≡ next_handle self.now }
         ensures whole { IsWhole self.now }
     {
-        self.slots.next()
+        self.slots.next_handle()
     }
 
     /// Returns the thread that a handle names.

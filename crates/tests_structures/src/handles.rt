@@ -106,22 +106,39 @@ fn lowered_handle_limit(rt: HostRuntime) {
     assert!(rt; held.insert_guest(3) == 1);
 }
 
-// A counter up to two, with one thread: its handle was given, given back and given again.
+// A counter up to two, with one thread: its handle was reserved, given, given back and given again.
+#[tactic(auto, using(task_handles::proofs::CountLemmas::counting))]
 fn counted_thread(rt: &impl Abort, alloc: Global) -> HandleCounter {
     let mut counter = HandleCounter::new(2);
     let mut threads = ThreadHandleTable::new(alloc);
-    assert!(rt; matches!(threads.guest_thread_insert(&mut counter, rep(1)), Ok(1)));
+    assert!(rt; counter.reserve());
+    assert!(rt; threads.next_handle() == 1);
+    assert!(rt; matches!(threads.insert_reserved(&mut counter, rep(1)), Ok(1)));
     assert!(rt; id_of(threads.guest_thread_rep(1)) == 1);
     assert!(rt; id_of(threads.guest_thread_remove(&mut counter, 1)) == 1);
     assert!(rt; given(threads.guest_thread_insert(&mut counter, rep(2))) == 1);
     counter
 }
 
-// A set gets the second handle, and the next one none.
+// A set gets the second handle, once a reservation of it is given up, and the next one none.
+#[tactic(auto, using(task_handles::proofs::CountLemmas::counting))]
 fn set_is_counted(rt: &impl Abort, alloc: Global, counter: &mut HandleCounter) {
     let mut held = HandleTable::new(alloc);
-    assert!(rt; given(held.waitable_set_insert(counter, rep(4))) == 1);
-    assert!(rt; given(held.waitable_set_insert(counter, rep(5))) == NONE);
+    assert!(rt; counter.reserve());
+    assert!(rt;
+        matches!(
+            held.waitable_set_insert(counter, rep(4)),
+            Err(HandleError::Limit)
+        )
+    );
+    counter.release();
+    assert!(rt; matches!(held.waitable_set_insert(counter, rep(4)), Ok(1)));
+    assert!(rt;
+        matches!(
+            held.waitable_set_insert(counter, rep(5)),
+            Err(HandleError::Limit)
+        )
+    );
 }
 
 #[test]

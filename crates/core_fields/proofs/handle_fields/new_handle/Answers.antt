@@ -6,7 +6,7 @@ use Rattle.core_records.proofs.HandleReads.{next_given}
 pub returns-in-Some : goal.returns-in-Some
 unfolding new_handle
 returns-in-Some c =
-    c.next.ensures.handle ∙ (next_given named_of c.in-Some.entry.now.handles c.next.ensures.whole
+    c.next_handle.ensures.handle ∙ (next_given named_of c.in-Some.entry.now.handles c.next_handle.ensures.whole
     ∙ ap (λ (o : Option (NameTable Named)). option_map_or (λ (t : NameTable Named). next_handle t t.freed) o 1) c.in-Some.ensures.handles)
 
 pub returns-in-None : goal.returns-in-None

@@ -7,7 +7,7 @@ use Rattle.core_records.specs.Instances.{thread_of as thread_named}
 pub returns-in-Some : goal.returns-in-Some
 unfolding new_thread_handle
 returns-in-Some c =
-    c.next.ensures.handle ∙ (next_given thread_named c.in-Some.entry.now.thread_handles c.next.ensures.whole
+    c.next_handle.ensures.handle ∙ (next_given thread_named c.in-Some.entry.now.thread_handles c.next_handle.ensures.whole
     ∙ ap (λ (o : Option (NameTable ℕ)). option_map_or (λ (t : NameTable ℕ). next_handle t t.freed) o 1) c.in-Some.ensures.thread_handles)
 
 pub returns-in-None : goal.returns-in-None
