@@ -2,10 +2,10 @@
 ghost use Rattle.host_embedding.specs.Host.{TakesOne};
 ghost use Rattle.host_embedding.specs.Keeps.{Keeps, keeps_later};
 ghost use Rattle.host_embedding.specs.Says.{HasRelayed, relay_says};
-ghost use Rattle.ops_state.specs.declared.error.TaskError.TheVariants as task_error;
 ghost use Rattle.std.specs.Prelude.{◌≡◌, ◌<◌, IfErr, IfOk};
 ghost use Rattle.task_loop.specs.HasRun.{MayStep};
 ghost use Rattle.task_loop.specs.Constants.{constants};
+ghost use Rattle.task_loop.specs.Hooked.{LacksOp};
 ghost use Rattle.core_primitives.specs.StateView.{StateView};
 
 use crate::parts::{DOUBLE, NEXT};
@@ -56,7 +56,7 @@ fn start(
     ensures same { access.new.store.ghost_name ≡ access.old.store.ghost_name }
     ensures constants_stay { constants access.new.store.now ≡ constants access.old.store.now }
     ensures step { IfOk result (λ step. HasRelayed component.now step relay.old access.old.store.now relay.new access.new.store.now) }
-    ensures err { IfErr result (λ e. e ≡ task_error.NoMemory) }
+    ensures err { IfErr result (λ e. LacksOp e access.old.store.now.listeners access.new.store.now.listeners) }
 {
     let number = relay.started + 1;
     match relay

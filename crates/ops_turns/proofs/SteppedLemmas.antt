@@ -335,3 +335,11 @@ module _ (x : Setting) (s : State) (before : List Label) (numbers : ℕ) (p : Tu
 
   pub added_none : (steps : ℕ) → n ≤ steps → Turned x p m t None m' t' × (after ≡ mid) → Drove x s before numbers p m' t' after steps outcome.Idle
   added_none steps room h = subst (λ (l : List Label). Drove x s before numbers p m' t' l steps outcome.Idle) (sym h.1) (on_turned_none x s before numbers p m m' t t' mid n steps on room h.0)
+
+-- so it is whether there was room for the step's label or not
+pub by_room : {P : Type 0} (q : StepResult) → ((q ≡ stepped.Full → ⊥) → P) → (is_made q ≡ false → P) → P
+by_room {P = P} q room full = by (is_made q) refl
+  where
+    by : (b : Bool) → is_made q ≡ b → P
+    by true made = room (made_room q made)
+    by false unmade = full unmade

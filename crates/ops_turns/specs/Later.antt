@@ -18,3 +18,7 @@ pub record SameWorks (s t : StateView) : Type 0 where
   pub works : t.core.works ≡ s.core.works
   pub made : t.core.made ≡ s.core.made
   pub tags : t.tags ≡ s.tags
+
+-- the same groups are tracked
+abbrev pub TracksSame : StateView → StateView → Type 0
+TracksSame s t = t.tags.tracked ≡ s.tags.tracked

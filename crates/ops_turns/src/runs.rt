@@ -8,6 +8,7 @@ ghost use Rattle.machine_data.specs.Read.{op_progress_of, instance_of, position_
 ghost use Rattle.ops_guests.specs.Works.{KeepsTold, NamesTold};
 ghost use Rattle.machine_rules.specs.Scripts.{op_of};
 ghost use Rattle.ops_turns.specs.Ran.{DidHere, MakesFew, OpMade, IsBeforeEnd, WantsMemory, scripted_rule_of};
+ghost use Rattle.ops_turns.specs.Later.{TracksSame};
 ghost use Rattle.ops_turns.specs.StepResult.{CallStepped, DataShown, ExitShown, IsFull, OpPolls, OpShown, OpStep, RuleRan, RunStepped, Shown, is_made};
 ghost use Rattle.ops_turns.specs.Turn.{CanUnwind, OpGoesOn, CoreInOrder, given, running_of};
 ghost use Rattle.ops_turns.specs.WellFormed.{IsWellFormed};
@@ -65,6 +66,7 @@ fn run_data<W: Primitives>(
     requires within { IsBeforeEnd end component.now (thread_of (W.view w.old) thread) (W.view w.old).core }
     ensures shown { is_made result ≡ true → DataShown component.now op.now thread (W.view w.old) trace.old result (W.view w.new) trace.new }
     ensures works { result ≢ StepResult.Full → KeepsTold (W.view w.old) (W.view w.new) }
+    ensures tracked { TracksSame (W.view w.old) (W.view w.new) }
     ensures full { is_made result ≡ false → IsFull result trace.old trace.new }
 {
     // only the contract speaks of `component`
@@ -97,7 +99,7 @@ fn run_plain<W: Primitives>(
     requires few { given (W.view w.old).core < 2 ^ 61 }
     ensures shown { is_made result ≡ true → OpShown component.now op.now thread (W.view w.old) trace.old result (W.view w.new) trace.new }
     ensures works { result ≢ StepResult.Full → NamesTold (W.view w.old) (W.view w.new) }
-    ensures full { is_made result ≡ false → IsFull result trace.old trace.new }
+    ensures full { is_made result ≡ false → IsFull result trace.old trace.new × TracksSame (W.view w.old) (W.view w.new) }
 {
     // The thread is there, which is asked once for all that its op looks up.
     match w.number(thread) {
@@ -139,6 +141,7 @@ fn run_exit<W: Primitives>(w: &mut W, thread: ThreadId, trace: &mut PackedLabels
     requires runner { Runner thread (W.view w.old) }
     ensures shown { is_made result ≡ true → ExitShown thread (W.view w.old) trace.old result (W.view w.new) trace.new }
     ensures works { result ≢ StepResult.Full → KeepsTold (W.view w.old) (W.view w.new) }
+    ensures tracked { TracksSame (W.view w.old) (W.view w.new) }
     ensures full { is_made result ≡ false → IsFull result trace.old trace.new }
 {
     let op_result = exit(w, thread);
@@ -162,6 +165,7 @@ fn run_host<W: Primitives>(
     ensures ran { IfOk result (λ q. RuleRan (scripted_rule_of component.now op.now thread (W.view w.old)) thread (W.view w.old) q.0 (W.view w.new)) }
     ensures work { IfOk result (λ q. OpMade answer component.now op.now thread (W.view w.old) q.1 (W.view w.new)) }
     ensures works { OnOk result (NamesTold (W.view w.old) (W.view w.new)) }
+    ensures tracked { TracksSame (W.view w.old) (W.view w.new) }
 {
     // only the contract speaks of `end`
     let _end = end;
@@ -193,6 +197,7 @@ fn run_by<W: Primitives>(
     ensures step { OpStep component.now op.now thread (W.view w.old) trace.old result (W.view w.new) trace.new }
     ensures polls { OpPolls component.now op.now thread (W.view w.old) result }
     ensures works { result ≢ StepResult.Full → NamesTold (W.view w.old) (W.view w.new) }
+    ensures tracked { TracksSame (W.view w.old) (W.view w.new) }
 {
     match op {
         Op::Call(call) if is_host_call(call) => StepResult::Nothing,
@@ -205,8 +210,8 @@ fn run_by<W: Primitives>(
 }
 
 /// Does the op of the running thread, which has this number, and adds what that shows to the trace. Where the op calls a host
-/// nothing is done, since that is asked for by `step_call`. If it is out of memory, nothing is added, and nothing is said of the
-/// state.
+/// nothing is done, since that is asked for by `step_call`. If it is out of memory, nothing is added, and of the state it is
+/// said that the same groups are tracked.
 #[inline(always)]
 pub fn step_run<W: Primitives>(
     component: &Component,
@@ -220,6 +225,7 @@ pub fn step_run<W: Primitives>(
     requires few { given (W.view w.old).core < 2 ^ 61 }
     ensures ran { RunStepped component.now number (W.view w.old) result (W.view w.new) trace.old trace.new }
     ensures works { result ≢ StepResult.Full → NamesTold (W.view w.old) (W.view w.new) }
+    ensures tracked { TracksSame (W.view w.old) (W.view w.new) }
 {
     w.none_is_zero();
     let Some(thread) = w.current() else {
@@ -244,7 +250,7 @@ pub fn step_run<W: Primitives>(
 
 /// Has the running thread, which has this number, do its op, which calls a host: the step, whose label is still to be
 /// added, and the work that was made are answered. The host is polled first, and has answered so if it is open. If it is out of
-/// memory, nothing is said of the state. It is a function of its own, so that what it answers is there only where a host is called.
+/// memory, it is said of the state that the same groups are tracked. It is a function of its own, so that what it answers is there only where a host is called.
 #[inline(never)]
 pub fn step_call<W: Primitives>(
     component: &Component,
@@ -259,6 +265,7 @@ pub fn step_call<W: Primitives>(
     requires few { given (W.view w.old).core < 2 ^ 61 }
     ensures ran { IfOk result (λ q. CallStepped answer component.now number (W.view w.old) q (W.view w.new)) }
     ensures works { OnOk result (NamesTold (W.view w.old) (W.view w.new)) }
+    ensures tracked { TracksSame (W.view w.old) (W.view w.new) }
 {
     // only the contract speaks of `number`
     let _number = number;

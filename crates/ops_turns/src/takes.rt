@@ -12,6 +12,7 @@ ghost use Rattle.ops_guests.specs.Stays.{StaysAfter};
 ghost use Rattle.ops_guests.specs.Works.{KeepsTold};
 ghost use Rattle.machine_rules.specs.Places.{Placed};
 ghost use Rattle.machine_rules.specs.Takes.{pushed};
+ghost use Rattle.ops_turns.specs.Later.{TracksSame};
 ghost use Rattle.ops_turns.specs.StepResult.{IsFull, Shown, TakingShown, TookShown, is_made};
 ghost use Rattle.ops_turns.specs.Taken.{FindsSet, Taken, TakesDelivery, TakesHost, TakesThread};
 ghost use Rattle.ops_turns.specs.Turn.{CanUnwind, OpGoesOn, Shows, CoreInOrder, Took};
@@ -116,6 +117,7 @@ fn step_thread<W: Primitives>(
     requires finds { FindsSet (thread_of (W.view w.old) thread) (W.view w.old).core }
     ensures shown { is_made result ≡ true → TakingShown mark thread (W.view w.old) trace.old result (W.view w.new) trace.new }
     ensures works { result ≢ StepResult.Full → KeepsTold (W.view w.old) (W.view w.new) }
+    ensures tracked { TracksSame (W.view w.old) (W.view w.new) }
     ensures full { is_made result ≡ false → IsFull result trace.old trace.new }
 {
     w.set_current(Some(thread));
@@ -159,7 +161,7 @@ fn step_host<W: Primitives>(w: &mut W, mark: Mark, work: WorkId) -> MadeStep
 }
 
 /// Takes the next entry, and adds what that shows to the trace; none where nothing is there. If it is out of memory, nothing is
-/// added, and nothing is said of the state. It is asked whose work it is, where the entry is that of one.
+/// added, and of the state it is said that the same groups are tracked. It is asked whose work it is, where the entry is that of one.
 #[inline(never)]
 pub(crate) fn step_take<W: Primitives>(
     component: &Component,
@@ -174,6 +176,7 @@ pub(crate) fn step_take<W: Primitives>(
     ensures worked { worked.new ≡ tracked_entry_group (next_entry (W.view w.old).core) (W.view w.old) }
     ensures took { TookShown component.now ended (W.view w.old) trace.old result (W.view w.new) trace.new }
     ensures works { result ≢ StepResult.Full → KeepsTold (W.view w.old) (W.view w.new) }
+    ensures tracked { TracksSame (W.view w.old) (W.view w.new) }
 {
     // only the contract speaks of `component`
     let _component = component;

@@ -5,7 +5,7 @@ ghost use Rattle.laws_states.specs.Order.{WorksQueued};
 ghost use Rattle.machine_data.specs.Read.{next_entry};
 ghost use Rattle.ops_guests.specs.Works.{KeepsTold};
 ghost use Rattle.machine_rules.specs.Stalled.{is_unended_take};
-ghost use Rattle.ops_turns.specs.Later.{SameWorks};
+ghost use Rattle.ops_turns.specs.Later.{SameWorks, TracksSame};
 ghost use Rattle.ops_turns.specs.WellFormed.{IsWellFormed};
 ghost use Rattle.ops_turns.specs.Drive.{Computed, StopsShort};
 ghost use Rattle.ops_turns.specs.StepResult.{TakesBeside, turn_of};
@@ -68,7 +68,7 @@ fn rest<W: Primitives>(w: &mut W, trap_on_idle: bool) -> Option<MadeStep>
 }
 
 /// Takes the next entry, or else finds out why there is none. What that shows is added to the trace. If it is out of memory,
-/// nothing is added, and nothing is said of the state.
+/// nothing is added, and of the state it is said that the same groups are tracked.
 pub fn take<W: Primitives>(
     component: &Component,
     w: &mut W,
@@ -83,6 +83,7 @@ pub fn take<W: Primitives>(
     ensures turned { TakesBeside component.now trap_on_idle ended (W.view w.old) result (W.view w.new) trace.old trace.new }
     ensures there { result ≢ StepResult.Full → RunnerThere (W.view w.new) }
     ensures works { result ≢ StepResult.Full → KeepsTold (W.view w.old) (W.view w.new) }
+    ensures tracked { TracksSame (W.view w.old) (W.view w.new) }
 {
     let taken = step_take(component, w, ended, trace, worked);
     let StepResult::Nothing = taken else {

@@ -3,9 +3,9 @@ ghost use Rattle.serve_main.specs.Knows.{Knows, Suits, func_of, knows_later};
 ghost use Rattle.serve_main.specs.Serves.{Does};
 ghost use Rattle.serve_main.specs.Steps.{FinishesNext, HasStepResult, IsBusy, MayStep, NoneReturned, StartsNext};
 ghost use Rattle.std.specs.Prelude.{◌≡◌, IfErr, IfOk, false, true};
-ghost use Rattle.ops_state.specs.declared.error.TaskError.TheVariants as task_error;
 ghost use Rattle.task_loop.specs.Says.{unscripted};
 ghost use Rattle.task_loop.specs.Constants.{constants};
+ghost use Rattle.task_loop.specs.Hooked.{LacksOp};
 
 use crate::server::ServerMain;
 use machine_data::MainLabel;
@@ -91,7 +91,7 @@ fn start_next<T, H: HostWork>(
     ensures step { IfOk result (λ next.
         StartsNext H.course component.now main.old access.old.store.now next main.new access.new.store.now) }
     ensures constants_stay { constants access.new.store.now ≡ constants access.old.store.now }
-    ensures err { IfErr result (λ e. e ≡ task_error.NoMemory) }
+    ensures err { IfErr result (λ e. LacksOp e access.old.store.now.listeners access.new.store.now.listeners) }
 {
     let Some(request) = main.requests.get(main.started) else {
         return Ok(None);

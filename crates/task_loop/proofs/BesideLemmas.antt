@@ -5,10 +5,10 @@ use Rattle.laws_beside.specs.Wide.{AbortedAt, FindsAbort, FindsRequest, Requeste
 use Rattle.std.proofs.Common.{ap, ap₂, arith, inl, inr, refl, subst, sym, ◌∙◌}
 use Rattle.std.proofs.lemmas.Bool.Decides.{nat_tests}
 use Rattle.std.specs.Option.{option_map_or}
-use Rattle.std.specs.Prelude.{Bool, Err, List, None, Ok, Option, Result, Some, [], false, true, ℕ, ◌&&◌, ◌+◌, ◌++◌, ◌∷◌, ◌≡◌, ◌≤◌}
+use Rattle.std.specs.Prelude.{Bool, Err, List, None, Ok, OnOk, Option, Result, Some, [], false, true, ℕ, ◌&&◌, ◌+◌, ◌++◌, ◌∷◌, ◌≡◌, ◌≤◌}
 use Rattle.laws_states.specs.Order.{InOrder}
 use Rattle.run_trace.specs.declared.yield_budget.YieldBudget.{YieldBudget}
-use Rattle.task_loop.specs.Beside.{HasEndedAborted, HasMet, HasPassed, HasPolledLast, IsNextAborted, MayMeet, StepsBeside}
+use Rattle.task_loop.specs.Beside.{HasAskedAt, HasEndedAborted, HasMet, HasPassed, HasPolledLast, IsNextAborted, MayMeet, StepsBeside}
 use Rattle.task_loop.specs.HasRun.{At, DrivesTo, HasLost, MayRun, MayTakeTurn, setting, state}
 use Rattle.task_loop.specs.Says.{Says}
 use Rattle.machine_data.proofs.CommuteLemmas.{get-change}
@@ -428,3 +428,19 @@ pub all_stays : {M T H G : Type 0} (a : At M T H G) (s : Store T H G) (p : Turn)
 all_stays a s p ls store turn trace =
     ap (λ t. record a { store = t; turn = p; trace = ls }) store
     ∙ (ap (λ q. record a { turn = q; trace = ls }) turn ∙ ap (λ ks. record a { trace = ks }) trace)
+
+-- ---- What was asked
+
+-- at another turn nothing is
+pub asked_else : {M B : Type 0} (polled : ℕ → M → B → B → Type 0) (turns : M → B → B → Type 0) (q : Turn) (s : Core) (m : M) (b : B) → (q ≡ turn.Main → ⊥) →
+    ((n : ℕ) → q ≡ turn.Futures n → ⊥) → HasAskedAt polled turns q s m b b
+asked_else polled turns turn.Main s m b main polls = absurd (main refl)
+asked_else polled turns (turn.Futures n) s m b main polls = absurd (polls n refl)
+asked_else polled turns (turn.Take ended) s m b main polls = refl
+asked_else polled turns (turn.Run n) s m b main polls = refl
+asked_else polled turns turn.Over s m b main polls = refl
+
+-- it stays so whatever comes of the step
+pub asked_still : {A E : Type 0} (P : Type 0) (r : Result A E) → P → OnOk r P
+asked_still P (Ok a) p = p
+asked_still P (Err e) p = tt

@@ -11,12 +11,13 @@ use Rattle.run_trace.specs.YieldBudget.{since_driven}
 use Rattle.task_loop.proofs.DoesLemmas.{others_shown}
 use Rattle.task_loop.proofs.DrivenLemmas.{leaves_counted, leaves_none}
 use Rattle.task_loop.proofs.HookLemmas.{answered_after, knows_trapped, must_listen}
+use Rattle.task_loop.proofs.LackLemmas.{tells_none}
 use Rattle.task_loop.proofs.OutcomeLemmas.{never_failed, polled_never}
 use Rattle.task_loop.proofs.RunPollLemmas.{outcome_there}
 use Rattle.task_loop.proofs.RanLemmas.{nothing_ran, ran_computed, ran_more, ran_still, ran_told}
 use Rattle.task_loop.proofs.StartLemmas.{trapped_hosts}
 use Rattle.task_loop.proofs.TakenLemmas.{stands_adds}
-use Rattle.task_loop.proofs.ToldLemmas.{asked_computed}
+use Rattle.task_loop.proofs.ToldLemmas.{asked_computed, groups_computed}
 use Rattle.task_loop.specs.HasRun.{At, DrivesTo, FailsTurn, GoesTo, HasDriven, HasFailed, HasGone, HasLost, HasPolled, HasStopped, HasTurned, IsLost, IsStopped, Keeps, LacksTurn, MayRun, MayTurn, PollsTo, RanTo, at, numbers, setting, state}
 use Rattle.task_loop.specs.Hooked.{StopsTurn, hook_failed}
 use Rattle.task_loop.specs.YieldBudgets.{LeavesYieldBudget}
@@ -24,7 +25,7 @@ use Rattle.task_loop.specs.Ran.{Ran}
 use Rattle.task_loop.specs.RunPolls.{stop_answer}
 use Rattle.task_loop.specs.Says.{Says}
 use Rattle.task_loop.specs.Constants.{constants}
-use Rattle.task_loop.specs.Told.{TurnTold, group_running}
+use Rattle.task_loop.specs.Told.{TellsSome, TurnTold, group_running}
 use Rattle.task_loop.specs.declared.poll_methods.RunPoll.{RunPoll}
 use Rattle.task_loop.specs.declared.run.Stop.{Stop}
 use Rattle.task_loop.specs.declared.run.Stop.TheVariants as stop
@@ -241,8 +242,8 @@ module _ {M T H G : Type 0} (says : Says M) (course : H → HostDef) (c : Compon
 
     -- it was out of memory
     lost_by : (steps : ℕ) (last : State) (main : M) (between : Listeners) (k : M) (after : List Label) (l : Listeners) → Ran says.does x s a.main a.trace a.store.listeners last main after between → WasGoing x s a.trace after steps →
-        (is_main_turn last.turn ≡ false → k ≡ main) → (is_main_turn last.turn ≡ false → l ≡ between) → IsLost says course c steps a k after l
-    lost_by steps last main between k after l ran was kept untold =
+        (is_main_turn last.turn ≡ false → k ≡ main) → (is_main_turn last.turn ≡ false → l ≡ between) → TellsSome between l → (tracked : List ℕ) → (is_main_turn last.turn ≡ false → tracked ≡ last.core.groups) → IsLost says course c steps a k after l tracked
+    lost_by steps last main between k after l ran was kept untold told tracked groups =
         let same : was.going.added ≡ ran.added = append_cancel_left a.trace was.going.added ran.added (sym was.going.trace ∙ ran.trace) in
         let short : length was.going.added ≤ steps = let e = was.going.count in let f = was.few in omega (arith, e, f) in
         record {
@@ -254,20 +255,23 @@ module _ {M T H G : Type 0} (says : Says M) (course : H → HostDef) (c : Compon
           going_on = subst (λ (ls : List Label). last_outcome ls ≡ None) same was.going.going_on;
           same = kept;
           untold = untold;
+          told = told;
+          groups = groups;
         }
 
-    lost : (v : At M T H G) (steps : ℕ) → n ≤ steps → LacksTurn says course c u v → IsLost says course c steps a v.main v.trace v.store.listeners
+    lost : (v : At M T H G) (steps : ℕ) → n ≤ steps → LacksTurn says course c u v → IsLost says course c steps a v.main v.trace v.store.listeners v.store.state.tags.tracked
     lost v steps few lacks =
         lost_by steps (state says course c u) u.main u.store.listeners v.main v.trace v.store.listeners
         (subst (λ (ls : List Label). Ran says.does x s a.main a.trace a.store.listeners (state says course c u) u.main ls u.store.listeners) (sym lacks.trace) come.ran)
         (was_on x s a.trace (numbers says course c a) u.turn (says.part u.main) u.store.state u.trace v.trace n steps come.on few lacks.trace)
-        lacks.main lacks.untold
+        lacks.main lacks.untold lacks.told v.store.state.tags.tracked (λ other. lacks.groups other ∙ come.asked)
 
-    pub come_short : (steps : ℕ) (after : List Label) → StopsShort c u.turn u.store.state u.trace n after steps → IsLost says course c steps a u.main after u.store.listeners
-    come_short steps after short =
+    pub come_short : (steps : ℕ) (after : List Label) → StopsShort c u.turn u.store.state u.trace n after steps → (tracked : List ℕ) → tracked ≡ u.store.state.tags.tracked → IsLost says course c steps a u.main after u.store.listeners tracked
+    come_short steps after short tracked same =
         lost_by steps (state_at short.last.core (says.part u.main) u.turn) u.main u.store.listeners u.main after u.store.listeners
         (ran_computed says.does x s a.main a.trace a.store.listeners says.part u.turn u.main u.store.state u.trace u.store.listeners short.last n after short.labels come.ran short.computes short.still)
-        (was_on_short x s a.trace (numbers says course c a) u.turn (says.part u.main) u.store.state u.trace after n steps come.on short) (λ other. refl) (λ other. refl)
+        (was_on_short x s a.trace (numbers says course c a) u.turn (says.part u.main) u.store.state u.trace after n steps come.on short) (λ other. refl) (λ other. refl) (tells_none _ _ refl) tracked
+        (λ other. same ∙ (come.asked ∙ sym (groups_computed c u.store.state u.trace n short.last after short.labels x refl u.turn short.computes short.still)))
 
     -- in the turns before the hook answered no error, and it failed in this one
     stopped : (v : At M T H G) (steps : ℕ) → n < steps → FailsTurn says course c u v → HasStopped says course c steps a v.main v.trace v.store.state v.store.listeners
@@ -316,7 +320,7 @@ module _ {M T H G : Type 0} (says : Says M) (course : H → HostDef) (c : Compon
         }
 
     -- the turns stop before the run does, as it is out of memory
-    pub come_lost : (v : At M T H G) (steps : ℕ) → n < steps → LacksTurn says course c u v → IsLost says course c steps a v.main v.trace v.store.listeners
+    pub come_lost : (v : At M T H G) (steps : ℕ) → n < steps → LacksTurn says course c u v → IsLost says course c steps a v.main v.trace v.store.listeners v.store.state.tags.tracked
     come_lost v steps room lacks = lost v steps (omega (arith, room)) lacks
 
     -- or as the hook failed
@@ -336,7 +340,7 @@ yes_of true not_off = refl
 yes_of false not_off = absurd (not_off refl)
 
 module _ {M T H G : Type 0} (says : Says M) (course : H → HostDef) (c : Component) (a b : At M T H G) (steps : ℕ) where
-  pub has_lost : (m : Store T H G) → IsLost says course c steps a b.main b.trace m.listeners → ToldListeners (finishes m.state.tags.tracked) m.listeners b.store.listeners → b.store.state.core.trapped ≡ true → HasLost says course c steps a b
+  pub has_lost : (m : Store T H G) → IsLost says course c steps a b.main b.trace m.listeners m.state.tags.tracked → ToldListeners (finishes m.state.tags.tracked) m.listeners b.store.listeners → b.store.state.core.trapped ≡ true → HasLost says course c steps a b
   has_lost m lost told trapped = record { listeners = m.listeners; lost = lost; tracked = m.state.tags.tracked; finishes = told; trapped = trapped }
 
   pub has_failed : (m : Store T H G) → b.store ≡ record m { state = asked (on_core set_trapped m.state); listeners = b.store.listeners } →

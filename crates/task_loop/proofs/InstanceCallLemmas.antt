@@ -9,7 +9,8 @@ use Rattle.ops_dispatch.specs.Makes.{takes_memory}
 use Rattle.ops_calls.specs.declared.answer_calls.Step.{Step}
 use Rattle.task_group.specs.Listeners.{Listeners}
 use Rattle.task_loop.proofs.HostOpHoldLemmas.{asked_holds}
-use Rattle.task_loop.proofs.TrackedLemmas.{TracksSame, answers_known}
+use Rattle.ops_turns.specs.Later.{TracksSame}
+use Rattle.task_loop.proofs.TrackedLemmas.{answers_known}
 use Rattle.task_loop.proofs.RuleTrapLemmas.{asked_not}
 use Rattle.task_loop.proofs.ToldLemmas.{told_core}
 use Rattle.task_loop.specs.Hooked.{HookCaused, HookFails}

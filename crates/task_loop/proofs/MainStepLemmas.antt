@@ -7,6 +7,7 @@ use Rattle.std.specs.Prelude.{Bool, List, None, Some, false, true, ◌≡◌}
 use Rattle.task_group.specs.Listeners.{ToldListeners, errors_of}
 use Rattle.task_loop.proofs.DoesLemmas.{step_in}
 use Rattle.task_loop.proofs.HookLemmas.{knows_trapped, stops_main}
+use Rattle.task_loop.proofs.LackLemmas.{failed_tells}
 use Rattle.task_loop.proofs.MainToldLemmas.{asked_step, told_step}
 use Rattle.task_loop.proofs.ToldLemmas.{idle_at, idle_running, main_moment, stands_turn}
 use Rattle.task_loop.specs.HasRun.{FailsTurn, HasStepResult, HasTurned, LacksTurn, MayStep, at_main}
@@ -14,7 +15,7 @@ use Rattle.task_loop.specs.AnswersOk.{is_refused}
 use Rattle.task_loop.specs.Hooked.{FailsMain, MainFails}
 use Rattle.task_loop.specs.Says.{Says}
 use Rattle.task_loop.specs.Ran.{DoesStep}
-use Rattle.task_loop.specs.Told.{TurnTold, group_running}
+use Rattle.task_loop.specs.Told.{TellsSome, TurnTold, group_running, main_notices}
 use Rattle.machine_data.specs.Core.{Main}
 use Rattle.machine_data.specs.declared.component.Component.{Component}
 use Rattle.machine_data.specs.declared.component.HostDef.{HostDef}
@@ -96,9 +97,18 @@ module _ {M T H G : Type 0} (says : Says M) (course : H → HostDef) (c : Compon
         asked = did.asked;
       }
 
-  -- it was out of memory, and main may have told something
-  pub lacks_main : (m : M) (s : Store T H G) (n : M) (t : Store T H G) (before after : List Label) → after ≡ before → (idle : Bool) → LacksTurn says course c (at_main idle m s before) (at_main idle n t after)
-  lacks_main m s n t before after same idle = record { trace = same; main = λ other. absurd (cc); untold = λ other. absurd (cc) }
+  -- it was out of memory, and main may have told some notices
+  pub lacks_main : (m : M) (s : Store T H G) (n : M) (t : Store T H G) → TellsSome s.listeners t.listeners → (before after : List Label) → after ≡ before → (idle : Bool) → LacksTurn says course c (at_main idle m s before) (at_main idle n t after)
+  lacks_main m s n t told before after same idle = record { trace = same; main = λ other. absurd (cc); untold = λ other. absurd (cc); told = told; groups = λ other. absurd (cc) }
+
+  -- those of a step that was done are such
+  pub stepped_tells : (q : MainStep) (m : M) (s : Store T H G) (n : M) (t : Store T H G) → HasStepResult says course c q m s n t → TellsSome s.listeners t.listeners
+  stepped_tells q m s n t did = (main_notices q s.state.core t.state.core, did.told)
+
+  -- nor are others told by an op that isn't done
+  pub fails_telling : (e : TaskError) (m n : M) (s t : Store T H G) → FailsMain course e m n s t → TellsSome s.listeners t.listeners
+  fails_telling e m n s t (inl lacks) = lacks.1
+  fails_telling e m n s t (inr hook) = failed_tells s.state.core s.listeners t.listeners hook.1.fails
 
   -- main's op came to a trap, as the hook failed
   pub step_failed : (e : TaskError) (w : Trap) → e ≡ task_error.Trap w → (m : M) (s : Store T H G) (n : M) (t : Store T H G) → FailsMain course e m n s t → ((u : StateView) → WorksLast s.state u → says.knows m s.state → says.knows m u) →
@@ -113,5 +123,5 @@ module _ {M T H G : Type 0} (says : Says M) (course : H → HostDef) (c : Compon
       }
     where
       fails_main : (e : TaskError) (w : Trap) → e ≡ task_error.Trap w → (m n : M) (s t : Store T H G) → FailsMain course e m n s t → MainFails course m n s t
-      fails_main e w is m n s t (inl out_of_memory) = absurd (cc)
+      fails_main e w is m n s t (inl lacks) = absurd (let memory = lacks.0 in cc)
       fails_main e w is m n s t (inr q) = q.1

@@ -322,6 +322,9 @@ module _ (c : Component) (s : StateView) (mid : List Label) (added : ℕ) (t : S
       by (turn.Take b) q still = refl
       by turn.Over q still = refl
 
+  pub groups_computed : (p : Turn) → Computes c p s mid added t after k → (runs_in p ≡ None → k ≡ added) → t.core.groups ≡ s.core.groups
+  groups_computed p q still = (computed_mild p q still).groups
+
   pub asked_computed : t.tags.tracked ≡ s.tags.tracked → (p : Turn) → Computes c p s mid added t after k → (runs_in p ≡ None → k ≡ added) → IsAsked s → IsAsked t
   asked_computed known p q still is = known ∙ (is ∙ sym (computed_mild p q still).groups)
 

@@ -19,12 +19,9 @@ use Rattle.ops_guests.specs.declared.op_result.OpAnswer.{OpAnswer}
 use Rattle.machine_rules.specs.Finish.{SomeHost}
 use Rattle.machine_rules.specs.Progress.{Continues, Progress, Traps}
 use Rattle.machine_rules.specs.Task.{ret_bad_rule, ret_rule}
+use Rattle.ops_turns.specs.Later.{TracksSame}
 use Rattle.ops_turns.specs.Turn.{running_of}
 use Rattle.core_primitives.specs.StateView.{StateView, with_core, with_current}
-
--- the same groups are tracked
-abbrev pub TracksSame : StateView → StateView → Type 0
-TracksSame s t = t.tags.tracked ≡ s.tags.tracked
 
 pub same_known : {s t : StateView} → t ≡ s → TracksSame s t
 same_known is = ap (λ (v : StateView). v.tags.tracked) is

@@ -5,6 +5,7 @@ use Rattle.task_loop.proofs.DoesLemmas.{still_taken}
 use Rattle.task_loop.proofs.HoldLemmas.{held_taken}
 use Rattle.task_loop.proofs.HookLemmas.{stops_after}
 use Rattle.task_loop.proofs.KnowsLemmas.{by_take}
+use Rattle.task_loop.proofs.LackLemmas.{tells_none}
 use Rattle.task_loop.proofs.TakenLemmas.{taken_running, taken_told}
 use Rattle.task_loop.specs.HasRun.{At, FailsTurn, HasTurned, MayTurn, TurnsTo}
 use Rattle.task_loop.specs.Says.{Says}
@@ -102,6 +103,6 @@ module _ {M T H G : Type 0} (says : Says M) (course : H → HostDef) (c : Compon
         let there = subst (λ (w : StepResult). Taken w) (sym e) nothing.0.0 in
         subst (λ (w : Turn). HasTurned says course c k running (u w) (v w)) (sym is)
         (took_ok k there None (there.nothing e).0 nothing.0.1 (λ made. absurd (made_some k made e)) (λ same. nothing.1.0) nothing.1.1);
-    full = λ e. let lost = taken.full e in record { trace = lost.0; main = λ other. refl; untold = λ other. lost.1 };
+    full = λ e. let lost = taken.full e in record { trace = lost.0; main = λ other. refl; untold = λ other. lost.1.0; told = tells_none _ _ lost.1.0; groups = λ other. lost.1.1 };
     failed = λ e. let fails = taken.failed e in subst (λ (w : Turn). FailsTurn says course c (u w) (v w)) (sym is) (took_failed fails.1.0 fails.1.1.0 fails.1.1.1.0 fails.1.1.1.1 fails.0);
   }

@@ -5,7 +5,7 @@ use Rattle.run_trace.specs.declared.yield_budget.YieldBudget.{YieldBudget}
 use Rattle.task_loop.specs.HasRun.{At, DrivesTo, HasLost, MayRun, MayTakeTurn, at, numbers, setting, state}
 use Rattle.task_loop.specs.Says.{Says}
 use Rattle.task_loop.specs.declared.run.RunConcurrent.{RunConcurrent}
-use Rattle.machine_data.specs.Core.{MainPlace, Scripted}
+use Rattle.machine_data.specs.Core.{Core, MainPlace, Scripted}
 use Rattle.machine_data.specs.Read.{phase_of}
 use Rattle.machine_data.specs.declared.component.Component.{Component}
 use Rattle.machine_data.specs.declared.component.HostDef.{HostDef}
@@ -52,6 +52,17 @@ pub record HasPassed {M : Type 0} (says : Says M) (k : ℕ) (m n : M) (s : State
 abbrev pub HasFound : {M : Type 0} → Says M → Option ℕ → (m n : M) → StateView → Type 0
 HasFound says None m n s = n ≡ m
 HasFound says (Some k) m n s = HasPassed says k m n s
+
+-- what was done where this work is polled next; nothing is where none is
+abbrev pub HasAskedNext : {M B : Type 0} → (ℕ → M → B → B → Type 0) → Option ℕ → M → (a b : B) → Type 0
+HasAskedNext polled None m a b = b ≡ a
+HasAskedNext polled (Some i) m a b = polled i m a b
+
+-- what was done in a step at this turn: where the next work is polled, at main's turn, and nothing at another
+abbrev pub HasAskedAt : {M B : Type 0} → (ℕ → M → B → B → Type 0) → (M → B → B → Type 0) → Turn → Core → M → (a b : B) → Type 0
+HasAskedAt polled turned turn.Main s m a b = turned m a b
+HasAskedAt polled turned (turn.Futures n) s m a b = HasAskedNext polled (next_polled n s) m a b
+HasAskedAt polled turned _ s m a b = b ≡ a
 
 -- ---- A work that another thread has aborted
 

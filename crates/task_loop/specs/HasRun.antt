@@ -12,7 +12,7 @@ use Rattle.task_loop.specs.Ran.{DoesStep, Ran}
 use Rattle.task_loop.specs.RunPolls.{is_yielded, may_poll, poll_answer, rests_last, since_left, since_left_by, stop_answer}
 use Rattle.task_loop.specs.Says.{Says}
 use Rattle.task_loop.specs.Constants.{constants}
-use Rattle.task_loop.specs.Told.{StartFails, TurnTold, group_running, main_notices, turn_of}
+use Rattle.task_loop.specs.Told.{StartFails, TellsSome, TurnTold, group_running, main_notices, turn_of}
 use Rattle.task_loop.specs.declared.poll_methods.RunPoll.{RunPoll}
 use Rattle.task_loop.specs.declared.run.Halt.{Halt}
 use Rattle.task_loop.specs.declared.run.Halt.TheVariants as halt
@@ -37,6 +37,7 @@ use Rattle.task_store.specs.Hosts.{HoldsHosts}
 use Rattle.task_store.specs.declared.store.Store.{Store}
 use Rattle.ops_turns.specs.Does.{label_of_step, step_of, step_shown}
 use Rattle.laws_labels.specs.Own.{is_main_turn}
+use Rattle.ops_turns.specs.Later.{TracksSame}
 use Rattle.ops_turns.specs.Main.{Steps}
 use Rattle.ops_turns.specs.StepResult.{AddedOrNone, MatchStep, is_made}
 use Rattle.ops_turns.specs.Turn.{IsSettled, PendsIn, CoreInOrder, given, goes_on, is_open, running_of, runs_in, setting_of, state_at}
@@ -174,11 +175,14 @@ module _ {M T H G : Type 0} (says : Says M) (course : H → HostDef) (c : Compon
     pub knows : says.knows b.main b.store.state
     pub works : HoldsHosts course b.store
 
-  -- It is out of memory in the turn: no label was added. Only main may have done something then, and told something.
+  -- It is out of memory in the turn: no label was added. Only main may have done something then, and told some notices.
   pub record LacksTurn (a b : At M T H G) : Type 0 where
     pub trace : b.trace ≡ a.trace
     pub main : is_main_turn a.turn ≡ false → b.main ≡ a.main
     pub untold : is_main_turn a.turn ≡ false → b.store.listeners ≡ a.store.listeners
+    pub told : TellsSome a.store.listeners b.store.listeners
+    -- the groups that are tracked
+    pub groups : is_main_turn a.turn ≡ false → TracksSame a.store.state b.store.state
 
   -- in each case
   abbrev pub TurnsTo : StepResult → (running : ℕ) → (a b : At M T H G) → Type 0
@@ -231,9 +235,9 @@ module _ {M T H G : Type 0} (says : Says M) (course : H → HostDef) (c : Compon
 
   -- ---- It is out of memory
 
-  -- A run of at most so many labels was added, up to a turn that isn't made, and the state is lost. Main and the listeners are as that
-  -- run left them, unless the turn is main's.
-  pub record IsLost (steps : ℕ) (a : At M T H G) (n : M) (after : List Label) (listeners : Listeners) : Type 0 where
+  -- A run of at most so many labels was added, up to a turn that isn't made, and the state is lost. Main, the listeners and the groups
+  -- that are tracked are as that run left them, unless the turn is main's: then main may have done something and told some notices.
+  pub record IsLost (steps : ℕ) (a : At M T H G) (n : M) (after : List Label) (listeners : Listeners) (tracked : List ℕ) : Type 0 where
     pub last : State
     pub main : M
     pub between : Listeners
@@ -242,12 +246,14 @@ module _ {M T H G : Type 0} (says : Says M) (course : H → HostDef) (c : Compon
     pub going_on : last_outcome ran.added ≡ None
     pub same : is_main_turn last.turn ≡ false → n ≡ main
     pub untold : is_main_turn last.turn ≡ false → listeners ≡ between
+    pub told : TellsSome between listeners
+    pub groups : is_main_turn last.turn ≡ false → tracked ≡ last.core.groups
 
   -- So it was. Then the store was trapped, and the groups that were tracked were told that they finish.
   pub record HasLost (steps : ℕ) (a b : At M T H G) : Type 0 where
     pub listeners : Listeners
-    pub lost : IsLost steps a b.main b.trace listeners
     pub tracked : List ℕ
+    pub lost : IsLost steps a b.main b.trace listeners tracked
     pub finishes : ToldListeners (finishes tracked) listeners b.store.listeners
     pub trapped : b.store.state.core.trapped ≡ true
 
@@ -346,5 +352,5 @@ module _ {M T H G : Type 0} (says : Says M) (course : H → HostDef) (c : Compon
       RunConcurrent → M → Store T H G → List Label → Type 0
   TurnsGive yields steps (Ok q) run m s before run' n t after =
       GoesTo yields steps q run.yield_budget (at run m s before) (at run' n t after) run'.yield_budget
-  TurnsGive yields steps (Err halt.NoMemory) run m s before run' n t after = IsLost steps (at run m s before) n after t.listeners
+  TurnsGive yields steps (Err halt.NoMemory) run m s before run' n t after = IsLost steps (at run m s before) n after t.listeners t.state.tags.tracked
   TurnsGive yields steps (Err halt.HookFailed) run m s before run' n t after = IsStopped steps (at run m s before) (at run' n t after)

@@ -5,7 +5,7 @@ use Rattle.ops_state.specs.declared.error.TaskError.{TaskError}
 use Rattle.ops_state.specs.declared.error.TaskError.TheVariants as task_error
 use Rattle.std.specs.Prelude.{Bool, Err, List, Result, false, is_some, true, ◌≡◌, ◌≢◌, ◌⊎◌}
 use Rattle.task_group.specs.Listeners.{AnsweredErr, Listeners}
-use Rattle.task_loop.specs.Told.{StartFails, TellsPart}
+use Rattle.task_loop.specs.Told.{StartFails, TellsPart, TellsSome}
 use Rattle.machine_data.specs.Core.{Core, Main}
 use Rattle.machine_data.specs.Write.{set_trapped}
 use Rattle.machine_data.specs.declared.component.HostDef.{HostDef}
@@ -31,9 +31,14 @@ pub record MainFails {M T H G : Type 0} (course : H → HostDef) (m n : M) (s t 
   pub hosts : HoldsHosts course t
   pub fails : StartFails s.state.core s.listeners t.listeners
 
--- main's op answers no other error than lack of memory, and that
+-- it is out of memory for main's op, which may have told some notices
+abbrev pub LacksOp : TaskError → Listeners → Listeners → Type 0
+LacksOp e old new = (e ≡ task_error.NoMemory) × TellsSome old new
+
+-- main's op answers no other error than lack of memory, and that of the hook
 abbrev pub FailsMain : {M T H G : Type 0} → (H → HostDef) → TaskError → (m n : M) → (s t : Store T H G) → Type 0
-FailsMain course e m n s t = (e ≡ task_error.NoMemory) ⊎ ((e ≡ task_error.Trap trap.HookFailed) × MainFails course m n s t)
+FailsMain course e m n s t =
+    LacksOp e s.listeners t.listeners ⊎ ((e ≡ task_error.Trap trap.HookFailed) × MainFails course m n s t)
 
 -- unless the hook failed, which it can't where none listens
 abbrev pub Unfailed : {A : Type 0} → (listens : Bool) → Result A TaskError → Type 0 → Type 0

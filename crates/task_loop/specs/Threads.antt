@@ -12,6 +12,7 @@ use Rattle.machine_data.specs.declared.records.Turn.TheVariants as turn
 use Rattle.ops_guests.specs.Works.{KeepsWorks, NamesTold, NamesWorks}
 use Rattle.task_store.specs.Hosts.{HoldsHosts}
 use Rattle.task_store.specs.declared.store.Store.{Store}
+use Rattle.ops_turns.specs.Later.{TracksSame}
 use Rattle.ops_turns.specs.StepResult.{Added, MatchStep, TakesBeside, is_made}
 use Rattle.ops_turns.specs.Turn.{CoreInOrder, MakesFree, TurnsBeside, given, running_of}
 use Rattle.ops_turns.specs.WellFormed.{IsWellFormed}
@@ -77,9 +78,9 @@ abbrev pub FailsThread : {T H G : Type 0} → (H → HostDef) → Component → 
 FailsThread course c n s t before after =
     FailsTold s.state.core (turn.Run n) t.state s.listeners t.listeners × ((q : StepResult) × StepsThread course c n s q t before after)
 
--- It is out of memory: no label was added, and nothing was told.
+-- It is out of memory: no label was added, nothing was told, and the same groups are tracked.
 abbrev pub LacksStep : {T H G : Type 0} → (s t : Store T H G) → (before after : List Label) → Type 0
-LacksStep s t before after = (after ≡ before) × (t.listeners ≡ s.listeners)
+LacksStep s t before after = (after ≡ before) × ((t.listeners ≡ s.listeners) × TracksSame s.state t.state)
 
 -- So it took its step; or it is out of memory; or the hook failed.
 abbrev pub RunsTo : {T H G : Type 0} → (H → HostDef) → Component → ℕ → (s : Store T H G) → StepResult → (running : ℕ) →

@@ -31,6 +31,10 @@ abbrev pub main_notices : MainStep → Core → Core → List Notice
 main_notices (step.Did l) s t = start_notices l t ++ finish_notices s.groups t.groups
 main_notices _ s t = []
 
+-- some notices were told, or none
+abbrev pub TellsSome : Listeners → Listeners → Type 0
+TellsSome old new = (ns : List Notice) × ToldListeners ns old new
+
 -- the same thread runs on
 abbrev pub runs_on : Turn → Turn → Bool
 runs_on (turn.Run n) (turn.Run m) = n == m

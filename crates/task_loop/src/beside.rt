@@ -1,6 +1,8 @@
 //! Steps of a run beside other threads, which may abort the works that main has spawned.
-ghost use Rattle.std.specs.Prelude.{◌≡◌, IfOk, IfSome, OnErr, OnOk};
-ghost use Rattle.task_loop.specs.Beside.{HasFound, IsFound, LastPollGives, MayMeet, MayPollLast, MetAbort, StepBesideGives};
+ghost use Rattle.std.specs.Prelude.{◌≡◌, IfOk, IfSome, OnErr, OnOk, ℕ};
+ghost use Rattle.task_loop.specs.Beside.{HasAskedAt, HasAskedNext, HasFound, IsFound, MayMeet, MayPollLast, MetAbort};
+ghost use Rattle.task_loop.specs.Beside.{LastPollGives, StepBesideGives};
+ghost use Rattle.machine_rules.specs.Works.{next_polled};
 ghost use Rattle.task_loop.specs.HasRun.{Keeps, MayRun, at};
 ghost use Rattle.task_loop.specs.Constants.{constants};
 ghost use Rattle.ops_turns.specs.StepResult.{turn_of};
@@ -21,6 +23,11 @@ pub trait Beside<M: MainTask<T, H, G>, T, H: HostWork, G: TaskGroupHook> {
 
     ghost same: { (b : Self) → keeps b b };
 
+    // What it has done where the work with this number was polled, for this main, and where main's turn was next.
+    ghost polled: { ℕ → M → Self → Self → Type 0 };
+
+    ghost turned: { M → Self → Self → Type 0 };
+
     /// The work with this number is polled next. `running` says that it runs, for all that the run itself has done. Answers its handle
     /// where it is one that main has spawned, and another thread has aborted it: that is so of a running one alone.
     fn polls(
@@ -32,6 +39,7 @@ pub trait Beside<M: MainTask<T, H, G>, T, H: HostWork, G: TaskGroupHook> {
     ) -> Result<Option<SpawnHandle>, NoMemory>
         requires { M.says.knows main.now store.now.state }
         ensures keeps { keeps self.old self.new }
+        ensures polled { OnOk result (polled number main.now self.old self.new) }
         ensures found { IfOk result (λ found. IfSome found (λ work. IsFound number running work store.now.state)) };
 
     /// Main's turn is next. Answers the spawn, counted from 1, if main's op is to abort it, and finds that another thread has done so: then
@@ -39,6 +47,7 @@ pub trait Beside<M: MainTask<T, H, G>, T, H: HostWork, G: TaskGroupHook> {
     fn turns(&mut self, main: &mut M, store: &Store<T, H, G>) -> Result<Option<u32>, NoMemory>
         requires { M.says.knows main.old store.now.state }
         ensures keeps { keeps self.old self.new }
+        ensures turned { OnOk result (turned main.old self.old self.new) }
         ensures script { M.says.script main.new ≡ M.says.script main.old }
         ensures found { IfOk result (λ found. HasFound M.says found main.old main.new store.now.state) };
 }
@@ -64,6 +73,7 @@ impl RunConcurrent {
         requires may { MayMeet H.course component.now (turn_of self.old.last) store.old }
         requires knows { M.says.knows main.now store.old.state }
         ensures keeps { B.keeps beside.old beside.new }
+        ensures asked { OnOk result (HasAskedNext B.polled (next_polled polled store.old.state.core) main.now beside.old beside.new) }
         ensures constants_stay { constants store.new ≡ constants store.old }
         ensures met { IfOk result (MetAbort H.course component.now polled
             store.old (turn_of self.old.last) trace.old store.new (turn_of self.new.last) trace.new) }
@@ -127,6 +137,8 @@ impl RunConcurrent {
         requires may { MayRun M.says H.course component.now (at self.old main.old store.old trace.old) }
         ensures keeps { Keeps M.says (at self.old main.old store.old trace.old) (at self.new main.new store.new trace.new) }
         ensures beside { B.keeps beside.old beside.new }
+        ensures asked { OnOk result (HasAskedAt B.polled B.turned (turn_of self.old.last) store.old.state.core main.old
+            beside.old beside.new) }
         ensures steps { StepBesideGives M.says H.course component.now G.listens result
             self.old main.old store.old trace.old self.new main.new store.new trace.new }
     {
@@ -180,6 +192,7 @@ impl RunConcurrent {
         requires may { MayPollLast M.says H.course component.now polled (at self.old main.now store.old trace.old) }
         ensures keeps { Keeps M.says (at self.old main.now store.old trace.old) (at self.new main.now store.new trace.new) }
         ensures beside { B.keeps beside.old beside.new }
+        ensures asked { OnOk result (HasAskedNext B.polled (next_polled polled store.old.state.core) main.now beside.old beside.new) }
         ensures polls { OnOk result (LastPollGives M.says H.course component.now polled main.now
             self.old store.old trace.old self.new store.new trace.new) }
         ensures err { OnErr result (trace.new ≡ trace.old) }

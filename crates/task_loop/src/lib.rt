@@ -11,6 +11,7 @@ mod instance;
 mod main_task;
 mod poll_methods;
 mod run;
+mod single_steps;
 mod subtask_methods;
 mod tells;
 mod thread_methods;

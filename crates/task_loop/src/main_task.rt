@@ -21,9 +21,9 @@ pub trait MainTask<T, H: HostWork, G: TaskGroupHook> {
     /// Takes the next op, in a store in order, of a component that suits main, in which no thread runs and fewer than 2^61 - 4
     /// numbers were given. The label of an op that is done is lawful, and store and main are as it leaves them; else they are as
     /// before. Whether a run is active on the store, whether it is concurrent and its number stay. It answers no error but lack of
-    /// memory, after which nothing else is said of either, and trap 22 if the hook that is told of groups answered an error to a
-    /// start: then main is as before, and so is the store, but trapped. An error of the hook is passed over in a refused start
-    /// alone.
+    /// memory and trap 22. After lack of memory who listens to groups was told some notices, or none, and nothing else is said of main
+    /// and the store. Trap 22 is answered if the hook that is told of groups answered an error to a start: then main is as before, and
+    /// so is the store, but trapped. An error of the hook is passed over in a refused start alone.
     fn step(
         &mut self,
         access: &mut Access<'_, T, Whole, H, G>,

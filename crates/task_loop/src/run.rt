@@ -9,6 +9,7 @@ ghost use Rattle.task_loop.specs.Told.{group_running};
 ghost use Rattle.ops_guests.specs.Works.{KeepsWorks};
 ghost use Rattle.machine_rules.specs.Scripts.{op_of};
 ghost use Rattle.task_store.specs.Hosts.{HoldsHosts};
+ghost use Rattle.ops_turns.specs.Later.{TracksSame};
 ghost use Rattle.ops_turns.specs.StepResult.{IsFull, is_made, turn_of};
 ghost use Rattle.ops_turns.specs.Turn.{IsAtTurn};
 ghost use Rattle.core_primitives.specs.Groups.{IsAsked};
@@ -125,9 +126,9 @@ fn step_main<T, H: HostWork, G: TaskGroupHook, M: MainTask<T, H, G>>(
 }
 
 // Has the running thread, which has this number, do its op, which calls a host: that is polled, and its work is held. It is a
-// function of its own, as few ops do so.
+// function of its own, as few ops do so: room for its answer is made only then.
 #[inline(never)]
-fn call_host_outlined<T, H: AccessorTask<T> + FromHost, G: TaskGroupHook>(
+fn call_host<T, H: AccessorTask<T> + FromHost, G: TaskGroupHook>(
     component: &Component,
     store: &mut Store<T, H, G>,
     thread: u64,
@@ -138,6 +139,7 @@ fn call_host_outlined<T, H: AccessorTask<T> + FromHost, G: TaskGroupHook>(
     ensures constants_stay { constants store.new ≡ constants store.old }
     ensures steps { is_made result ≡ true → StepsUntold H.course component.now thread store.old result store.new trace.old trace.new }
     ensures listeners { store.new.listeners ≡ store.old.listeners }
+    ensures tracked { TracksSame store.old.state store.new.state }
     ensures full { is_made result ≡ false → IsFull result trace.old trace.new }
 {
     // The host's work is polled before its call is done: what the call results in is what it answers.
@@ -150,24 +152,6 @@ fn call_host_outlined<T, H: AccessorTask<T> + FromHost, G: TaskGroupHook>(
         return StepResult::Full;
     };
     put(trace, stepped.0)
-}
-
-// Does the step in line: room for its answer is made only if a host is called.
-#[inline(always)]
-fn call_host<T, H: AccessorTask<T> + FromHost, G: TaskGroupHook>(
-    component: &Component,
-    store: &mut Store<T, H, G>,
-    thread: u64,
-    trace: &mut PackedLabels,
-) -> StepResult
-    requires runs { RunsThread H.course component.now thread store.old }
-    requires calls { calls_host (op_of component.now thread store.old.state.core) ≡ true }
-    ensures constants_stay { constants store.new ≡ constants store.old }
-    ensures steps { is_made result ≡ true → StepsUntold H.course component.now thread store.old result store.new trace.old trace.new }
-    ensures listeners { store.new.listeners ≡ store.old.listeners }
-    ensures full { is_made result ≡ false → IsFull result trace.old trace.new }
-{
-    call_host_outlined(component, store, thread, trace)
 }
 
 // The running thread, which has this number, takes a step. A host that it calls is polled, and its
@@ -183,6 +167,7 @@ fn step_thread<T, H: AccessorTask<T> + FromHost, G: TaskGroupHook>(
     ensures constants_stay { constants store.new ≡ constants store.old }
     ensures steps { is_made result ≡ true → StepsUntold H.course component.now thread store.old result store.new trace.old trace.new }
     ensures listeners { store.new.listeners ≡ store.old.listeners }
+    ensures tracked { TracksSame store.old.state store.new.state }
     ensures full { is_made result ≡ false → IsFull result trace.old trace.new }
 {
     let stepped = step_run(component, &mut store.state, thread, trace);
@@ -321,7 +306,7 @@ impl RunConcurrent {
     ///
     /// If it is out of memory, the labels that were added are those of such a run to a state that is lost. The notices of these labels
     /// were told, and main did the steps that they show; at main's turn it may have done and told more. Then the store is trapped,
-    /// and its groups are finished. Whether a run is active on the store, whether it is concurrent and its number stay.
+    /// and its groups are finished: those of that state, unless it is main's turn. Whether a run is active on the store, whether it is concurrent and its number stay.
     ///
     /// Where the hook that is told of the groups answers an error, the outcome is trap 22, which adds no label of its own and
     /// comes by nothing else: the store is trapped, its groups are finished, and the run is over. The labels that were added are

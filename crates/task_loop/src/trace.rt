@@ -1,6 +1,8 @@
 //! The trace of runs, as hosts see it.
-ghost use Rattle.std.specs.Prelude.{◌≡◌, []};
+ghost use Rattle.std.specs.List.{last_or};
+ghost use Rattle.std.specs.Prelude.{◌≡◌, [], None};
 
+use machine_data::Label;
 use run_trace::{Labels, PackedLabels};
 use std::alloc::Global;
 use std::marker::Model;
@@ -38,5 +40,13 @@ impl Trace {
         ensures { result ≡ self.now }
     {
         self.labels.labels()
+    }
+
+    /// Returns the label that was added last, in constant time; none if there is none.
+    #[inline(always)]
+    pub fn last(&self) -> Option<Label>
+        ensures { result ≡ last_or None self.now }
+    {
+        self.labels.last()
     }
 }

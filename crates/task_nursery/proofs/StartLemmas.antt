@@ -30,5 +30,5 @@ begins_refused c f words n m s t (faults.HostFailed i) h = absurd (no_failure c 
 
 pub tells_refused : {T H G : Type 0} (s t : Store T H G) (e : TaskError) → ToldListeners (finishes s.state.tags.tracked) s.listeners t.listeners → TellsStart (Err (refusal_of e)) s t
 tells_refused s t (faults.Trap why) told = told
-tells_refused s t faults.NoMemory told = tt
-tells_refused s t (faults.HostFailed i) told = tt
+tells_refused s t faults.NoMemory told = (finishes s.state.tags.tracked, told)
+tells_refused s t (faults.HostFailed i) told = (finishes s.state.tags.tracked, told)

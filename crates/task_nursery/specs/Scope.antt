@@ -6,6 +6,7 @@ use Rattle.ops_calls.specs.MainCalls.{Starts}
 use Rattle.store_notices.specs.Moves.{finishes}
 use Rattle.task_group.specs.Listeners.{AnsweredErr, ToldListeners}
 use Rattle.task_loop.specs.LoopCalls.{callee_of}
+use Rattle.task_loop.specs.Told.{TellsSome}
 use Rattle.task_loop.specs.declared.call.Func.{Func}
 use Rattle.task_loop.specs.declared.call.FuncCallConcurrent.{FuncCallConcurrent}
 use Rattle.machine_data.specs.Core.{Core}
@@ -105,6 +106,7 @@ TellsStart (Ok child) s t =
     ToldListeners (told_of notice.Start (s.state.core.made.groups + 1) ∷ []) s.listeners t.listeners ×
     (AnsweredErr s.listeners t.listeners → ⊥)
 TellsStart (Err (errors.Trap why)) s t = ToldListeners (finishes s.state.tags.tracked) s.listeners t.listeners
+TellsStart (Err errors.NoMemory) s t = TellsSome s.listeners t.listeners
 TellsStart (Err _) s t = Unit {0}
 
 -- the component has the export, which takes as many words

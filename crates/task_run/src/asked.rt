@@ -2,8 +2,9 @@
 ghost use Rattle.laws_beside.specs.Wide.{is_running};
 ghost use Rattle.machine_data.specs.Read.{phase_of};
 ghost use Rattle.machine_rules.specs.MainOps.{spawned_at};
-ghost use Rattle.std.specs.Prelude.{◌≡◌, IfOk, true};
+ghost use Rattle.std.specs.Prelude.{◌≡◌, IfOk, OnOk, true, ℕ};
 ghost use Rattle.task_loop.specs.Beside.{HasFound};
+ghost use Rattle.task_run.specs.Asked.{HasAskedOp, op_of};
 ghost use Rattle.task_run.specs.Says.{script_says};
 ghost use Rattle.task_run.specs.Script.{place_of};
 
@@ -22,15 +23,22 @@ pub trait AskedSpawns {
 
     ghost same: { (b : Self) → keeps b b };
 
+    // What it has done where main was to abort this spawn, and where main looked whether it is over.
+    ghost aborted: { ℕ → Self → Self → Type 0 };
+
+    ghost awaited: { ℕ → Self → Self → Type 0 };
+
     /// Main is to abort this spawn. `running` says that its work runs, for all that the run itself has done. Answers whether another
     /// thread has aborted it: that is so of a running one alone.
     fn aborts(&mut self, spawn: u32, running: bool) -> Result<bool, NoMemory>
         ensures keeps { keeps self.old self.new }
+        ensures aborted { OnOk result (aborted spawn self.old self.new) }
         ensures running { IfOk result (λ found. found ≡ true → running ≡ true) };
 
     /// Main looks whether this spawn is over.
     fn awaits(&mut self, spawn: u32) -> Result<(), NoMemory>
-        ensures keeps { keeps self.old self.new };
+        ensures keeps { keeps self.old self.new }
+        ensures awaited { OnOk result (awaited spawn self.old self.new) };
 }
 
 // Whether the work is live, and nobody in the run has aborted it.
@@ -66,6 +74,7 @@ impl ScriptMain<'_> {
         beside: &mut B,
     ) -> Result<Option<u32>, NoMemory>
         ensures keeps { B.keeps beside.old beside.new }
+        ensures asked { OnOk result (HasAskedOp B.aborted B.awaited (op_of self.old) beside.old beside.new) }
         ensures ops { self.new.ops ≡ self.old.ops }
         ensures found { IfOk result (λ found. HasFound script_says found self.old self.new store.now.state) }
     {

@@ -39,12 +39,12 @@ pub fresh_more : (v : Version) (n handles capacity : ℕ) → with_instance (fre
 unfolding fresh with_instance
 fresh_more v n handles capacity = rw (size_filled untouched n) refl
 
--- the rules and the limits of a new store may be set at once
-pub limits_set : (v : Version) (handles capacity : ℕ) → with_handle_limit handles (with_capacity capacity (with_version v (fresh version.One 0 100000 1000000))) ≡ fresh v 0 handles capacity
+-- the limits of a new store are set, and its rules stay
+pub limits_set : (handles capacity : ℕ) → with_handle_limit handles (with_capacity capacity (fresh version.One 0 100000 1000000)) ≡ fresh version.One 0 handles capacity
 unfolding fresh
-limits_set v handles capacity = refl
+limits_set handles capacity = refl
 
--- the rules alone
-pub rules_set : (v : Version) → with_version v (fresh version.One 0 100000 1000000) ≡ fresh v 0 100000 1000000
+-- the rules of a store in which nothing goes on are set
+pub rules_set : (v : Version) (n handles capacity : ℕ) → with_version v (fresh version.One n handles capacity) ≡ fresh v n handles capacity
 unfolding fresh
-rules_set v = refl
+rules_set v n handles capacity = refl

@@ -18,6 +18,8 @@ mod refused;
 #[cfg(test)]
 mod rules;
 #[cfg(test)]
+mod single;
+#[cfg(test)]
 mod spawned;
 #[cfg(test)]
 mod stopped;

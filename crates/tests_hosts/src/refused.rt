@@ -1,4 +1,4 @@
-//! Starts that a failing hook refuses: what they answer, and what is left of the store.
+//! Starts that are refused, by a failing hook or as the store is trapped: what they answer, and what is left of the store.
 ghost use Rattle.machine_data.specs.declared.scenario.Version.TheVariants as versions;
 ghost use Rattle.std.specs.Prelude.{◌≡◌, ◌<◌, ◌^◌, IfSome, IsSome, Some, length, true};
 ghost use Rattle.task_loop.specs.LoopCalls.{callee_of};
@@ -54,16 +54,28 @@ fn takes_a_word(component: &Component) -> bool
     }
 }
 
-fn is_refused<A: Drop>(answer: Result<A, TaskError>) -> bool {
-    matches!(answer, Err(TaskError::Trap(Trap::HookFailed)))
+fn is_refused<A: Drop>(answer: Result<A, TaskError>, why: Trap) -> bool {
+    match answer {
+        Err(TaskError::Trap(trap)) => trap.number() == why.number(),
+        _ => false,
+    }
 }
 
-fn is_ready<A: Drop>(answer: Poll<Result<A, TaskError>>) -> bool {
-    matches!(answer, Poll::Ready(Err(TaskError::Trap(Trap::HookFailed))))
+fn is_ready<A: Drop>(answer: Poll<Result<A, TaskError>>, why: Trap) -> bool {
+    match answer {
+        Poll::Ready(answer) => is_refused(answer, why),
+        Poll::Pending => false,
+    }
 }
 
-// Whether a start in this way answers that the hook failed.
-fn refuses(alloc: Global, component: &Component, store: &mut Watched<'_>, way: Way) -> bool
+// Whether a start in this way is refused by this trap.
+fn refuses(
+    alloc: Global,
+    component: &Component,
+    store: &mut Watched<'_>,
+    way: Way,
+    why: Trap,
+) -> bool
     requires covered { IsWellFormed component.now }
     requires there { IsSome (export_at component.now (callee_of F)) }
     requires params { IfSome (export_at component.now (callee_of F)) (λ e. 1 ≡ e.params) }
@@ -72,13 +84,13 @@ fn refuses(alloc: Global, component: &Component, store: &mut Watched<'_>, way: W
 {
     let func: TypedFunc<u64, u64> = TypedFunc::new(F);
     match way {
-        Way::Plain => is_refused(F.start_call_concurrent(component, store, &[7])),
-        Way::Typed => is_refused(func.start_call_concurrent(component, store, 7)),
+        Way::Plain => is_refused(F.start_call_concurrent(component, store, &[7]), why),
+        Way::Typed => is_refused(func.start_call_concurrent(component, store, 7), why),
         Way::Polled => match F.call_concurrent(alloc, component, &[7]) {
-            Ok(mut call) => is_ready(call.poll(component, store)),
+            Ok(mut call) => is_ready(call.poll(component, store), why),
             Err(_) => false,
         },
-        Way::TypedPolled => is_ready(func.call_concurrent(7).poll(component, store)),
+        Way::TypedPolled => is_ready(func.call_concurrent(7).poll(component, store), why),
     }
 }
 
@@ -90,7 +102,25 @@ fn refuses_first(alloc: Global, scenario: &Scenario, store: &mut Watched<'_>, wa
     requires params { IfSome (export_at scenario.now.component (callee_of F)) (λ e. 1 ≡ e.params) }
     requires fresh { store.old.state ≡ with_core (fresh versions.One 1 100000 1000000) nothing }
 {
-    refuses(alloc, &scenario.component, store, way)
+    refuses(alloc, &scenario.component, store, way, Trap::HookFailed)
+}
+
+// The same in such a store that is trapped then.
+fn refuses_trapped(alloc: Global, scenario: &Scenario, store: &mut Watched<'_>, way: Way) -> bool
+    requires runnable { IsRunnable scenario.now }
+    requires one { length scenario.now.component.instances ≡ 1 }
+    requires there { IsSome (export_at scenario.now.component (callee_of F)) }
+    requires params { IfSome (export_at scenario.now.component (callee_of F)) (λ e. 1 ≡ e.params) }
+    requires fresh { store.old.state ≡ with_core (fresh versions.One 1 100000 1000000) nothing }
+{
+    store.set_trapped();
+    refuses(
+        alloc,
+        &scenario.component,
+        store,
+        way,
+        Trap::CannotEnterComponent,
+    )
 }
 
 // A start in this way whose group the hook refuses. Nothing is made by it, and the store is trapped by those that aren't typed.
@@ -107,6 +137,18 @@ fn is_left(rt: &impl Abort, alloc: Global, way: Way) -> bool {
     refused && none && store.trapped() == traps && told.get() == 11
 }
 
+// A start in this way in a trapped store: nothing is made by it, and the hook is told nothing.
+fn is_kept_out(rt: &impl Abort, alloc: Global, way: Way) -> bool {
+    let Ok(scenario) = read_scenario(alloc, ONE_EXPORT) else {
+        panic!(rt; "a scenario")
+    };
+    assert!(rt; scenario.component.instances.len() == 1 && takes_a_word(&scenario.component));
+    let told = Cell::new(0);
+    let mut store = watched(rt, alloc, &told, 1_000_000, 0);
+    let refused = refuses_trapped(alloc, &scenario, &mut store, way);
+    refused && store.given() == 0 && told.get() == 0
+}
+
 #[test]
 fn a_hook_may_refuse_a_start(rt: HostRuntime) {
     assert!(rt; is_left(&rt, rt.alloc(), Way::Plain));
@@ -117,4 +159,12 @@ fn a_hook_may_refuse_a_start(rt: HostRuntime) {
 fn a_hook_may_refuse_the_first_poll(rt: HostRuntime) {
     assert!(rt; is_left(&rt, rt.alloc(), Way::Polled));
     assert!(rt; is_left(&rt, rt.alloc(), Way::TypedPolled));
+}
+
+#[test]
+fn a_trapped_store_refuses_each_start(rt: HostRuntime) {
+    assert!(rt; is_kept_out(&rt, rt.alloc(), Way::Plain));
+    assert!(rt; is_kept_out(&rt, rt.alloc(), Way::Typed));
+    assert!(rt; is_kept_out(&rt, rt.alloc(), Way::Polled));
+    assert!(rt; is_kept_out(&rt, rt.alloc(), Way::TypedPolled));
 }

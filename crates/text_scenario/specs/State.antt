@@ -1,5 +1,5 @@
 -- What the lines so far have said, and what one more line makes of it.
-use Rattle.std.specs.Prelude.{◌≡◌, ℕ, Bool, true, false, Result, Ok, Err, ◌+◌, ◌^◌, List, [], ◌∷◌, ◌++◌, length, Option, Some, None, nat_lt, ◌==◌, ◌&&◌, if◌then◌else◌, position}
+use Rattle.std.specs.Prelude.{◌≡◌, ℕ, Bool, true, false, Result, Ok, Err, ◌+◌, ◌^◌, List, [], ◌∷◌, ◌++◌, length, Option, Some, None, nat_lt, ◌==◌, ◌&&◌, if◌then◌else◌, position, ◌⊎◌}
 use Rattle.std.specs.Str.{bytes_eq}
 use Rattle.machine_data.specs.declared.component.Callee.{Callee}
 use Rattle.machine_data.specs.declared.op.Operand.{Operand}
@@ -304,6 +304,10 @@ after_keyword s k tokens = line_after k tokens >>= λ l. after s l
 -- what one more line makes of a state
 unfoldable pub after_tokens : State → List (List ℕ) → Option State
 after_tokens s tokens = line_at tokens >>= λ l. after s l
+
+-- a line that isn't taken leaves what was read as it was, or nothing of it
+abbrev pub StaysOrEmpty : (old new : State) → Type 0
+StaysOrEmpty old new = (new ≡ old) ⊎ (new ≡ state.Empty)
 
 unfoldable pub scenario_of : State → Option ScenarioText
 scenario_of (state.Ended x) = Some x

@@ -1,5 +1,5 @@
 //! The ops of main so far, with what later lines ask of them.
-ghost use Rattle.std.specs.Prelude.{◌≡◌, ◌<◌, ◌≤◌, [], ◌∷◌, ◌++◌, List, OnOk};
+ghost use Rattle.std.specs.Prelude.{◌≡◌, ◌<◌, ◌≤◌, [], ◌∷◌, ◌++◌, List, OnErr, OnOk};
 ghost use Rattle.std.specs.List.{list_all, list_any};
 ghost use Rattle.text_scenario.specs.declared.tree.MainOpText.{MainOpText};
 ghost use Rattle.text_scenario.specs.declared.tree.MainOpText.TheVariants as main;
@@ -149,9 +149,10 @@ impl MainLines {
             && self.all_spawned(spawns)
     }
 
-    /// Adds a start.
+    /// Adds a start; if it is out of memory, the ops are as before.
     pub fn push_start(&mut self, callee: Callee, operands: Seq<Operand>) -> Result<(), AllocError>
-        ensures { OnOk result (self.new ≡ self.old ++ main.Start callee operands ∷ []) }
+        ensures ok { OnOk result (self.new ≡ self.old ++ main.Start callee operands ∷ []) }
+        ensures err { OnErr result (self.new ≡ self.old) }
     {
         self.finished.push(false)?;
         match self.ops.push(MainOpText::Start(callee, operands)) {
@@ -168,7 +169,8 @@ impl MainLines {
 
     #[tactic(auto, using(crate::proofs::MainKept::few_spawns))]
     fn push_spawn(&mut self, host: u32) -> Result<(), AllocError>
-        ensures { OnOk result (self.new ≡ self.old ++ main.Spawn host ∷ []) }
+        ensures ok { OnOk result (self.new ≡ self.old ++ main.Spawn host ∷ []) }
+        ensures err { OnErr result (self.new ≡ self.old) }
     {
         self.ops.push(MainOpText::Spawn(host))?;
         // read so that the proof knows the invariant of `self`
@@ -177,10 +179,11 @@ impl MainLines {
         Ok(())
     }
 
-    /// Adds an op, which finishes no later start than those that it follows.
+    /// Adds an op, which finishes no later start than those that it follows; if it is out of memory, the ops are as before.
     pub fn push(&mut self, op: MainOpText) -> Result<(), AllocError>
         requires { FinishesStart self.old op }
-        ensures { OnOk result (self.new ≡ self.old ++ op ∷ []) }
+        ensures ok { OnOk result (self.new ≡ self.old ++ op ∷ []) }
+        ensures err { OnErr result (self.new ≡ self.old) }
     {
         match op {
             MainOpText::Start(callee, operands) => self.push_start(callee, operands),

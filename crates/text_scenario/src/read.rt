@@ -1,8 +1,8 @@
 //! A text, line by line.
-ghost use Rattle.std.specs.Prelude.{◌≡◌, ◌==◌, ◌<◌, ◌-◌, [], ◌∷◌, ℕ, List, drop, length, map, position, IsOkUnless, IfSome, MatchOption, OnOk};
+ghost use Rattle.std.specs.Prelude.{◌≡◌, ◌==◌, ◌<◌, ◌-◌, ◌++◌, [], ◌∷◌, ℕ, List, drop, length, map, position, IsOkUnless, IfSome, MatchOption, OnErr, OnOk};
 ghost use Rattle.text_lines.specs.Gives.{BecomesValue};
 ghost use Rattle.text_scenario.specs.Grammar.{lines, tokens, spelled, IsTextOf};
-ghost use Rattle.text_scenario.specs.State.{after_tokens, read_from, ReadsAs};
+ghost use Rattle.text_scenario.specs.State.{after_tokens, read_from, ReadsAs, StaysOrEmpty};
 ghost use Rattle.text_scenario.specs.AnswersLine.{AnswersLine};
 ghost use Rattle.text_scenario.specs.declared.tree.ScenarioText.{ScenarioText};
 
@@ -76,9 +76,10 @@ fn token_end(line: &[u8]) -> Option<usize>
 }
 
 /// Puts the tokens of a line, which have one space between them, into a list that is used for each line. What was in the list is
-/// gone.
+/// gone. If it is out of memory, the list has the first ones alone.
 pub fn split_tokens<'a>(list: &mut Vec<&'a [u8]>, line: &'a [u8]) -> Result<(), AllocError>
-    ensures { OnOk result (map (λ w. w.now) list.new.items ≡ tokens line.now) }
+    ensures ok { OnOk result (map (λ w. w.now) list.new.items ≡ tokens line.now) }
+    ensures err { OnErr result ((rest : List (List ℕ)) × map (λ w. w.now) list.new.items ++ rest ≡ tokens line.now) }
 {
     list.clear();
     let mut rest = line;
@@ -96,7 +97,8 @@ fn add_line<'a>(
     list: &mut Vec<&'a [u8]>,
     line: &'a [u8],
 ) -> Result<(), LineError>
-    ensures { BecomesValue state.new result (after_tokens state.old (tokens line.now)) }
+    ensures value { BecomesValue state.new result (after_tokens state.old (tokens line.now)) }
+    ensures err { OnErr result (StaysOrEmpty state.old state.new) }
 {
     split_tokens(list, line)?;
     state.add(alloc, list)

@@ -1,5 +1,5 @@
 //! What was read so far, and what each kind of line adds to it.
-ghost use Rattle.std.specs.Prelude.{◌≡◌, Some, map};
+ghost use Rattle.std.specs.Prelude.{◌≡◌, OnErr, Some, map};
 ghost use Rattle.std.specs.Option.{option_map};
 ghost use Rattle.text_lines.specs.Gives.{Gives, BecomesValue};
 ghost use Rattle.text_lines.specs.declared.keyword.Keyword.TheVariants as keyword;
@@ -126,7 +126,8 @@ fn with_part(
 #[inline(always)]
 #[tactic(auto, unfolding(crate::specs::State::with_op))]
 fn push_op(callback: bool, ops: &mut Seq<Op>, op: Op) -> Result<(), LineError>
-    ensures { BecomesValue ops.new result (with_op callback ops.old op) }
+    ensures value { BecomesValue ops.new result (with_op callback ops.old op) }
+    ensures err { OnErr result (ops.new ≡ ops.old) }
 {
     if !op_opens(callback, ops.as_slice(), &op) {
         return Err(LineError::Bad);
@@ -244,7 +245,7 @@ impl Drop for State {
 }
 
 impl State {
-    ghost use Rattle.text_scenario.specs.State.{script_closed, instance_closed, main_open, script_body, after_title, after_handles, after_table, after_idle, after_head, after_host, after_instance, after_export, after_react, after_thread, after_bad, after_part, after_op, after_call, after_main, after_main_op, after_answer, after_aborter, after_end, after, after_keyword, after_tokens, scenario_of};
+    ghost use Rattle.text_scenario.specs.State.{script_closed, instance_closed, main_open, script_body, after_title, after_handles, after_table, after_idle, after_head, after_host, after_instance, after_export, after_react, after_thread, after_bad, after_part, after_op, after_call, after_main, after_main_op, after_answer, after_aborter, after_end, after, after_keyword, after_tokens, scenario_of, StaysOrEmpty};
 
     #[tactic(auto, unfolding(crate::specs::State::script_closed))]
     fn close_script(self) -> Result<(Body, InstanceText), LineError>
@@ -442,7 +443,8 @@ impl State {
     #[inline(never)]
     #[tactic(auto, unfolding(crate::specs::State::after_op))]
     fn add_op(&mut self, op: Op) -> Result<(), LineError>
-        ensures { BecomesValue self.new result (after_op self.old op) }
+        ensures value { BecomesValue self.new result (after_op self.old op) }
+        ensures err { OnErr result (self.new ≡ self.old) }
     {
         match self {
             State::Script(_, _, opening, start) => push_op(is_callback(opening.kind), start, op),
@@ -468,7 +470,8 @@ impl State {
     #[inline(never)]
     #[tactic(auto, unfolding(crate::specs::State::after_call))]
     fn add_call(&mut self, call: NamedCall) -> Result<(), LineError>
-        ensures { BecomesValue self.new result (after_call self.old call) }
+        ensures value { BecomesValue self.new result (after_call self.old call) }
+        ensures err { OnErr result (self.new ≡ self.old) }
     {
         let body = self.script_body().ok_or(LineError::Bad)?;
         let op = call_of(body.hosts.as_slice(), body.instances.as_slice(), call);
@@ -498,7 +501,8 @@ impl State {
     #[inline(never)]
     #[tactic(auto, unfolding(crate::specs::State::after_main_op, crate::specs::State::main_open))]
     fn add_main_op(&mut self, op: NamedOp) -> Result<(), LineError>
-        ensures { BecomesValue self.new result (after_main_op self.old op) }
+        ensures value { BecomesValue self.new result (after_main_op self.old op) }
+        ensures err { OnErr result (self.new ≡ self.old) }
     {
         let State::Main(body, ops) = self else {
             return Err(LineError::Bad);
@@ -514,7 +518,8 @@ impl State {
     #[inline(never)]
     #[tactic(auto, unfolding(text_lines::specs::Line::line_after, text_lines::specs::Line::main_op_after, crate::specs::State::after, crate::specs::State::after_main_op, crate::specs::State::main_open, crate::specs::State::main_op_of, crate::specs::State::start_of))]
     fn add_start(&mut self, alloc: Global, tokens: &[&[u8]]) -> Result<(), LineError>
-        ensures { BecomesValue self.new result (after_keyword self.old (keyword.Main main_keyword.Start) (map (λ w. w.now) tokens.now)) }
+        ensures value { BecomesValue self.new result (after_keyword self.old (keyword.Main main_keyword.Start) (map (λ w. w.now) tokens.now)) }
+        ensures err { OnErr result (self.new ≡ self.old) }
     {
         let (instance, export, operands) = start_tokens(alloc, tokens)?;
         let State::Main(body, ops) = self else {
@@ -535,7 +540,8 @@ impl State {
     #[inline(never)]
     #[tactic(auto, unfolding(text_lines::specs::Line::line_after, text_lines::specs::Line::main_op_after, crate::specs::State::after, crate::specs::State::after_main_op, crate::specs::State::main_open, crate::specs::State::main_op_of))]
     fn add_finish(&mut self, tokens: &[&[u8]]) -> Result<(), LineError>
-        ensures { BecomesValue self.new result (after_keyword self.old (keyword.Main main_keyword.Finish) (map (λ w. w.now) tokens.now)) }
+        ensures value { BecomesValue self.new result (after_keyword self.old (keyword.Main main_keyword.Finish) (map (λ w. w.now) tokens.now)) }
+        ensures err { OnErr result (self.new ≡ self.old) }
     {
         let Some((start, to)) = finish_tokens(tokens) else {
             return Err(LineError::Bad);
@@ -587,7 +593,8 @@ impl State {
     }
 
     fn taken(&mut self) -> State
-        ensures { result ≡ self.old }
+        ensures value { result ≡ self.old }
+        ensures empty { self.new ≡ State.Empty }
     {
         mem::replace(self, State::Empty)
     }
@@ -630,7 +637,8 @@ impl State {
         keyword: Keyword,
         tokens: &[&[u8]],
     ) -> Result<(), LineError>
-        ensures { BecomesValue self.new result (after_keyword self.old keyword (map (λ w. w.now) tokens.now)) }
+        ensures value { BecomesValue self.new result (after_keyword self.old keyword (map (λ w. w.now) tokens.now)) }
+        ensures err { OnErr result (StaysOrEmpty self.old self.new) }
     {
         match line_after(alloc, keyword, tokens)? {
             Line::Op(op) => self.add_op(op),
@@ -647,7 +655,8 @@ impl State {
     #[inline(always)]
     #[tactic(auto, unfolding(text_lines::specs::Line::line_after, text_lines::specs::Line::data_op_after, crate::specs::State::after))]
     fn add_data(&mut self, token: DataKeyword, tokens: &[&[u8]]) -> Result<(), LineError>
-        ensures { BecomesValue self.new result (after_keyword self.old (keyword.Data token) (map (λ w. w.now) tokens.now)) }
+        ensures value { BecomesValue self.new result (after_keyword self.old (keyword.Data token) (map (λ w. w.now) tokens.now)) }
+        ensures err { OnErr result (self.new ≡ self.old) }
     {
         match token {
             DataKeyword::Set => {
@@ -679,7 +688,8 @@ impl State {
         token: MainKeyword,
         tokens: &[&[u8]],
     ) -> Result<(), LineError>
-        ensures { BecomesValue self.new result (after_keyword self.old (keyword.Main token) (map (λ w. w.now) tokens.now)) }
+        ensures value { BecomesValue self.new result (after_keyword self.old (keyword.Main token) (map (λ w. w.now) tokens.now)) }
+        ensures err { OnErr result (StaysOrEmpty self.old self.new) }
     {
         match token {
             MainKeyword::Start => self.add_start(alloc, tokens),
@@ -688,10 +698,11 @@ impl State {
         }
     }
 
-    /// Adds the line that these tokens spell to what was read. After an error nothing is said of the state.
+    /// Adds the line that these tokens spell to what was read. After an error the state is as before, or empty.
     #[tactic(auto, unfolding(crate::specs::State::after_tokens, crate::specs::State::after, text_lines::specs::Line::line_at, text_lines::specs::Line::line_after))]
     pub fn add(&mut self, alloc: Global, tokens: &[&[u8]]) -> Result<(), LineError>
-        ensures { BecomesValue self.new result (after_tokens self.old (map (λ w. w.now) tokens.now)) }
+        ensures value { BecomesValue self.new result (after_tokens self.old (map (λ w. w.now) tokens.now)) }
+        ensures err { OnErr result (StaysOrEmpty self.old self.new) }
     {
         let Some((token, tokens)) = tokens.split_first() else {
             return Err(LineError::Bad);

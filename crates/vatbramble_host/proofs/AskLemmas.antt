@@ -3,10 +3,10 @@ use Rattle.vatbramble_host.proofs.SpawnLemmas.{spawns_same}
 use Rattle.vatbramble_host.specs.Asks.{asking_says}
 use Rattle.vatbramble_host.specs.declared.asking.AskingMain.{AskingMain}
 use Rattle.ops_state.specs.declared.error.TaskError.{TaskError}
-use Rattle.ops_state.specs.declared.error.TaskError.TheVariants as task_error
 use Rattle.std.proofs.Common.{ap, inl, refl}
 use Rattle.std.specs.Prelude.{Err, IfErr, IfOk, Ok, Result, [], ◌≡◌}
 use Rattle.task_loop.specs.HasRun.{HasStepResult, MayStep, StepsTo}
+use Rattle.task_loop.specs.Hooked.{LacksOp}
 use Rattle.machine_data.specs.Core.{Core, Unscripted}
 use Rattle.machine_data.specs.declared.component.Component.{Component}
 use Rattle.machine_data.specs.declared.component.HostDef.{HostDef}
@@ -44,6 +44,6 @@ module _ {D T H G : Type 0} (course : H → HostDef) (c : Component) (m n : Aski
     asked = did.asked;
   }
 
-  pub steps_before : (r : Result MainStep TaskError) (o : AskingMain D) (t : Store T H G) → IfOk r (λ q. HasStepResult asking_says course c q n s o t) → IfErr r (λ e. e ≡ task_error.NoMemory) → StepsTo asking_says course c r m s o t
+  pub steps_before : (r : Result MainStep TaskError) (o : AskingMain D) (t : Store T H G) → IfOk r (λ q. HasStepResult asking_says course c q n s o t) → IfErr r (λ e. LacksOp e s.listeners t.listeners) → StepsTo asking_says course c r m s o t
   steps_before (Ok q) o t did err = stepped_before q o t did
   steps_before (Err e) o t did err = inl err

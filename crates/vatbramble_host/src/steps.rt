@@ -1,10 +1,10 @@
 //! The steps of a main that asks.
 ghost use Rattle.task_loop.specs.LoopCalls.{TakesWords};
 ghost use Rattle.vatbramble_host.specs.Asks.{MayFinish, asking_says, spawns_later};
-ghost use Rattle.ops_state.specs.declared.error.TaskError.TheVariants as task_error;
 ghost use Rattle.std.specs.Prelude.{◌≡◌, ◌+◌, ◌<◌, IfErr, IfOk, IsSome, length, slice_get};
 ghost use Rattle.task_loop.specs.HasRun.{HasStepResult, MayStep};
 ghost use Rattle.task_loop.specs.Constants.{constants};
+ghost use Rattle.task_loop.specs.Hooked.{LacksOp};
 
 use crate::ask::{Answer, Ask, CallId, HostMain, SpawnId};
 use crate::asking::{AskingMain, Begun, Wait};
@@ -31,7 +31,7 @@ fn start<T, H: HostWork, D: Drop>(
     ensures constants_stay { constants access.new.store.now ≡ constants access.old.store.now }
     ensures step { IfOk result (λ step.
         HasStepResult asking_says H.course component.now step main.old access.old.store.now main.new access.new.store.now) }
-    ensures err { IfErr result (λ e. e ≡ task_error.NoMemory) }
+    ensures err { IfErr result (λ e. LacksOp e access.old.store.now.listeners access.new.store.now.listeners) }
 {
     let place = main.calls.len();
     let number = number_of(place);
@@ -152,7 +152,7 @@ fn spawn<T, H: AccessorTask<T> + FromHost, D: Drop>(
     ensures constants_stay { constants access.new.store.now ≡ constants access.old.store.now }
     ensures step { IfOk result (λ step.
         HasStepResult asking_says H.course component.now step main.old access.old.store.now main.new access.new.store.now) }
-    ensures err { IfErr result (λ e. e ≡ task_error.NoMemory) }
+    ensures err { IfErr result (λ e. LacksOp e access.old.store.now.listeners access.new.store.now.listeners) }
 {
     // only the contract speaks of `component`
     let _component = component;

@@ -84,6 +84,15 @@ returns-in-Err-Trap-clause-step c =
 pub returns-in-Err-NoMemory-clause-constants_stay : goal.returns-in-Err-NoMemory-clause-constants_stay
 returns-in-Err-NoMemory-clause-constants_stay c = rw c.start.ensures.keeps.rest refl
 
+pub returns-in-Err-NoMemory-clause-err : goal.returns-in-Err-NoMemory-clause-err
+returns-in-Err-NoMemory-clause-err c =
+    let d = c.args.component.now in
+    let main = c.args.relay.now in
+    let words : List ℕ = main.word ∷ [] in
+    let is = c.in-Err-NoMemory.is ∙ ap (λ (w : NurseryError). Err w) c.in-Err-NoMemory.field-0-is in
+    let has = subst (λ (r : Result Child NurseryError). BeginsChild d c.args.func words main.calls c.args.access.now.store.now r c.start.new.self c.start.new.store) is c.start.ensures.begins in
+    (refl, has.told c.requires.may.asked)
+
 -- ---- The scope has refused it
 
 pub returns-in-Err-Closed-clause-constants_stay : goal.returns-in-Err-Closed-clause-constants_stay

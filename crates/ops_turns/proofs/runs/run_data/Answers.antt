@@ -1,5 +1,6 @@
 use Rattle.core_primitives.specs.Preferences.{preference}
-use Rattle.core_primitives.specs.StateView.{thread_of}
+use Rattle.std.proofs.Common.{ap, ◌∙◌}
+use Rattle.core_primitives.specs.StateView.{Tags, thread_of}
 use Rattle.machine_rules.proofs.CalmLemmas.{data_calm}
 use Rattle.machine_rules.specs.Data.{data_rule}
 use Rattle.ops_dispatch.proofs.GoesLemmas.{same_goes}
@@ -38,3 +39,6 @@ returns-clause-shown g c made =
       stays = same_stays _ s u c.compute-op_result.result implements c.compute-op_result.ensures.tags c.compute-op_result.ensures.current;
       shown = c.show.ensures.shown made;
     }
+
+pub returns-clause-tracked : goal.returns-clause-tracked
+returns-clause-tracked g c = c.show.ensures.works.1 ∙ ap (λ (ts : Tags). ts.tracked) c.compute-op_result.ensures.tags

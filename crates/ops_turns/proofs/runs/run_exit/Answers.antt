@@ -1,3 +1,4 @@
+use Rattle.std.proofs.Common.{◌∙◌}
 use Rattle.ops_dispatch.proofs.EndLemmas.{exit_implements, exit_picks}
 use Rattle.ops_turns.proofs.OrderLemmas.{unwinds}
 use Rattle.ops_turns.proofs.runs.run_exit.Goals as goal
@@ -26,3 +27,6 @@ returns-clause-shown g c made d =
       stays = did.stays;
       shown = c.show_exit.ensures.shown made;
     }
+
+pub returns-clause-tracked : goal.returns-clause-tracked
+returns-clause-tracked g c = c.show_exit.ensures.works.1 ∙ c.exit-op_result.ensures.does.kept.1

@@ -1,6 +1,6 @@
 use Rattle.ops_dispatch.proofs.BeforeEndLemmas.{answers_right, event_fits, below_end}
 use Rattle.ops_dispatch.specs.Rules.{rule_of}
-use Rattle.std.proofs.Common.{arith}
+use Rattle.std.proofs.Common.{ap, arith, refl, ◌∙◌}
 use Rattle.ops_turns.proofs.SteppedLemmas.{made_if}
 use Rattle.ops_guests.specs.Works.{NamesTold}
 use Rattle.machine_rules.specs.Step.{own_script}
@@ -8,7 +8,7 @@ use Rattle.ops_dispatch.proofs.EndLemmas.{end_goes, end_implements, end_picks, e
 use Rattle.ops_turns.proofs.OrderLemmas.{unwinds}
 use Rattle.ops_turns.proofs.RanLemmas.{works_told}
 use Rattle.ops_turns.proofs.runs.run_plain.Goals as goal
-use Rattle.core_primitives.specs.StateView.{thread_of}
+use Rattle.core_primitives.specs.StateView.{StateView, thread_of}
 
 pub finish-requires-clause-position : goal.finish-requires-clause-position
 finish-requires-clause-position g c due =
@@ -70,3 +70,14 @@ returns-clause-works g c room =
     let told = end_works NamesTold (rule_of c.args.component.now o) (own_script o) c.args.thread s (v c.do_plain_op.new.w) u c.in-Ok.op_result did c.finish.ensures did.kept in
     let shown = c.show.ensures.shown (made_if c.show.result c.show.ensures.full room) in
     works_told (thread_of u c.args.thread) c.in-Ok.op_result s u t shown.core told c.show.ensures.works
+
+pub returns-clause-full : goal.returns-clause-full
+returns-clause-full g c unmade =
+    let v = g.W.View.view in
+    let o = c.args.op.now in
+    let did = c.in-Ok.ensures.does in
+    let told = end_works NamesTold (rule_of c.args.component.now o) (own_script o) c.args.thread (v c.args.w.now) (v c.do_plain_op.new.w) (v c.finish.new.w) c.in-Ok.op_result did c.finish.ensures did.kept in
+    (c.show.ensures.full unmade, c.show.ensures.works.1 ∙ told.1)
+
+pub returns-in_default-do_plain_op-clause-full : goal.returns-in_default-do_plain_op-clause-full
+returns-in_default-do_plain_op-clause-full g c unmade = ((refl, refl), ap (λ (u : StateView). u.tags.tracked) c.in_default-do_plain_op.ensures.err.1)

@@ -92,3 +92,9 @@ returns-in-None-clause-works g c room =
     let comp = c.args.component.now in
     let took = c.step_take-taken.ensures.took.nothing c.in-Nothing.is in
     subst (λ (w : StateView). KeepsTold w (v c.rest.new.w)) took.0.1 c.rest.ensures.works
+
+pub returns-in-Some-clause-tracked : goal.returns-in-Some-clause-tracked
+returns-in-Some-clause-tracked g c = c.rest.ensures.works.1 ∙ c.step_take-taken.ensures.tracked
+
+pub returns-in-None-clause-tracked : goal.returns-in-None-clause-tracked
+returns-in-None-clause-tracked g c = c.rest.ensures.works.1 ∙ c.step_take-taken.ensures.tracked

@@ -81,3 +81,10 @@ returns-in-Err-Full-clause-step g c =
           (ap constants full.1) (e.keeps.works g.H.HostWork.course c.requires.may.hosts) c.requires.may,
       inl full.0,
     )
+
+pub returns-in-Err-NoMemory-clause-err : goal.returns-in-Err-NoMemory-clause-err
+returns-in-Err-NoMemory-clause-err g c =
+    let s = c.args.access.now.store.now in
+    let t = c.start-started.new.store in
+    let is = c.in-Err-NoMemory.is ∙ ap (λ (w : NurseryError). Err w) (rw c.in-Err-NoMemory.is at c.in-Err-NoMemory.field-0-is) in
+    (refl, subst (λ (r : Result Child NurseryError). IsAsked s.state → TellsStart r s t) is c.start-started.ensures.begins.told c.requires.may.groups)

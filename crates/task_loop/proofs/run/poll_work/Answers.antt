@@ -109,4 +109,4 @@ returns-in_default-clause-polled g c =
 pub returns-then-not-is_made-clause-polled : goal.returns-then-not-is_made-clause-polled
 returns-then-not-is_made-clause-polled g c =
     let unmade = sym c.is_made.ensures ∙ c.if-not-is_made.true in
-    of_unmade c.put-stepped.result unmade (c.put-stepped.ensures.full unmade) (λ same. (same, ap (λ k. k.listeners) c.poll_next-made.ensures.rest))
+    of_unmade c.put-stepped.result unmade (c.put-stepped.ensures.full unmade) (λ same. (same, (ap (λ k. k.listeners) c.poll_next-made.ensures.rest, c.poll_next-made.ensures.works.1)))

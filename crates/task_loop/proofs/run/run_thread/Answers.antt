@@ -107,4 +107,4 @@ returns-in_default-clause-ran g c =
 pub returns-then-not-is_made-clause-ran : goal.returns-then-not-is_made-clause-ran
 returns-then-not-is_made-clause-ran g c =
     let unmade = sym c.is_made.ensures ∙ c.if-not-is_made.true in
-    of_unmade c.step_thread-stepped.result unmade (c.step_thread-stepped.ensures.full unmade) (λ same. (same, c.step_thread-stepped.ensures.listeners))
+    of_unmade c.step_thread-stepped.result unmade (c.step_thread-stepped.ensures.full unmade) (λ same. (same, (c.step_thread-stepped.ensures.listeners, c.step_thread-stepped.ensures.tracked)))

@@ -1,6 +1,6 @@
 -- A step that pends is made apart.
 use Rattle.std.proofs.Common.{refl, ◌∙◌}
-use Rattle.task_loop.proofs.MainStepLemmas.{lacks_main, step_failed, step_turned}
+use Rattle.task_loop.proofs.MainStepLemmas.{fails_telling, lacks_main, step_failed, step_turned, stepped_tells}
 use Rattle.task_loop.proofs.run.step_main.Goals as goal
 use Rattle.ops_turns.proofs.SteppedLemmas.{of_failed, of_full, of_lost}
 use Rattle.ops_turns.specs.declared.mains.MainStep.TheVariants as step
@@ -18,7 +18,8 @@ pub returns-in-Pends-clause-turned : goal.returns-in-Pends-clause-turned
 returns-in-Pends-clause-turned g c idle =
     of_full c.put.result
     (λ made. step_turned g.M.MainTask.says g.H.HostWork.course c.args.component.now c.in-Ok.step step.Pends c.in-Pends.is c.args.main.now c.args.store.now c.ask_main.new.main c.ask_main.new.store c.in-Ok.ensures.steps c.requires.may.idle
-    c.made_by_main-pends.result c.made_by_main-pends.ensures.label c.made_by_main-pends.ensures.turns c.put.result c.args.trace.now c.put.new.trace made (c.put.ensures.in_trace made) idle) c.put.ensures.full (λ same. lacks_main g.M.MainTask.says g.H.HostWork.course c.args.component.now c.args.main.now c.args.store.now c.ask_main.new.main c.ask_main.new.store c.args.trace.now c.put.new.trace same idle)
+    c.made_by_main-pends.result c.made_by_main-pends.ensures.label c.made_by_main-pends.ensures.turns c.put.result c.args.trace.now c.put.new.trace made (c.put.ensures.in_trace made) idle) c.put.ensures.full (λ same. lacks_main g.M.MainTask.says g.H.HostWork.course c.args.component.now c.args.main.now c.args.store.now c.ask_main.new.main c.ask_main.new.store
+    (stepped_tells g.M.MainTask.says g.H.HostWork.course c.args.component.now c.in-Ok.step c.args.main.now c.args.store.now c.ask_main.new.main c.ask_main.new.store c.in-Ok.ensures.steps) c.args.trace.now c.put.new.trace same idle)
 
 pub returns : goal.returns
 returns g c = record {
@@ -27,7 +28,8 @@ returns g c = record {
   turned = λ idle.
       of_full c.put-2.result
       (λ made. step_turned g.M.MainTask.says g.H.HostWork.course c.args.component.now c.in-Ok.step c.in-Ok.step refl c.args.main.now c.args.store.now c.ask_main.new.main c.ask_main.new.store c.in-Ok.ensures.steps c.requires.may.idle
-      c.made_by_main-made.result c.made_by_main-made.ensures.label c.made_by_main-made.ensures.turns c.put-2.result c.args.trace.now c.put-2.new.trace made (c.put-2.ensures.in_trace made) idle) c.put-2.ensures.full (λ same. lacks_main g.M.MainTask.says g.H.HostWork.course c.args.component.now c.args.main.now c.args.store.now c.ask_main.new.main c.ask_main.new.store c.args.trace.now c.put-2.new.trace same idle);
+      c.made_by_main-made.result c.made_by_main-made.ensures.label c.made_by_main-made.ensures.turns c.put-2.result c.args.trace.now c.put-2.new.trace made (c.put-2.ensures.in_trace made) idle) c.put-2.ensures.full (λ same. lacks_main g.M.MainTask.says g.H.HostWork.course c.args.component.now c.args.main.now c.args.store.now c.ask_main.new.main c.ask_main.new.store
+      (stepped_tells g.M.MainTask.says g.H.HostWork.course c.args.component.now c.in-Ok.step c.args.main.now c.args.store.now c.ask_main.new.main c.ask_main.new.store c.in-Ok.ensures.steps) c.args.trace.now c.put-2.new.trace same idle);
 }
 
 -- ---- It isn't made
@@ -40,4 +42,9 @@ returns-in-Err-Trap-clause-turned g c idle =
     (λ u last. g.met.M.MainTask.stays main s.state u last) c.requires.may.knows c.args.trace.now c.args.trace.now refl idle)
 
 pub returns-in-Err : goal.returns-in-Err
-returns-in-Err g c = record { constants_stay = c.in-Err.ensures.constants_stay; script = c.in-Err.ensures.script; turned = λ idle. of_lost (lacks_main g.M.MainTask.says g.H.HostWork.course c.args.component.now c.args.main.now c.args.store.now c.ask_main.new.main c.ask_main.new.store c.args.trace.now c.args.trace.now refl idle) }
+returns-in-Err g c = record {
+  constants_stay = c.in-Err.ensures.constants_stay;
+  script = c.in-Err.ensures.script;
+  turned = λ idle. of_lost (lacks_main g.M.MainTask.says g.H.HostWork.course c.args.component.now c.args.main.now c.args.store.now c.ask_main.new.main c.ask_main.new.store
+      (fails_telling g.M.MainTask.says g.H.HostWork.course c.args.component.now _ c.args.main.now c.ask_main.new.main c.args.store.now c.ask_main.new.store c.in-Err.ensures.steps) c.args.trace.now c.args.trace.now refl idle);
+}

@@ -52,7 +52,7 @@ returns-then-not-is_made-clause-taken g c =
           let there = subst (λ (w : StepResult). TakesBeside d c.args.trap_on_idle c.args.ended s w c.take-taken.new.w c.args.trace.now c.take-taken.new.trace) e turned in
           let asked = subst (λ (v : StateView). IsAsked v) (sym (none_kept d c.args.trap_on_idle c.args.ended s c.take-taken.new.w (turned.nothing e).0)) c.requires.asked in
           ((there, (c.take-taken.ensures.works (λ full. let no = sym e ∙ full in cc)).0), (refl, asked));
-      full = λ e. (turned.full e, refl);
+      full = λ e. (turned.full e, (refl, c.take-taken.ensures.tracked));
       failed = λ e. absurd (turned.failed e);
     }
 

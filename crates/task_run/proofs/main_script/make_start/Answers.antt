@@ -1,8 +1,9 @@
 -- What came of the start is an op of main.
-use Rattle.std.proofs.Common.{arith, length, ◌≡◌, ◌∙◌, ◌+◌, ap, ap₂, refl, subst, sym, Err, Ok}
+use Rattle.std.proofs.Common.{arith, inl, length, ◌≡◌, ◌∙◌, ◌+◌, ap, ap₂, refl, subst, sym, Err, Ok}
 use Rattle.std.specs.Option.{option_map}
 use Rattle.std.specs.Prelude.{IfSome, IsSome, Option}
 use Rattle.std.proofs.lemmas.List.{length-map, map_push}
+use Rattle.std.proofs.lemmas.Result.{err_from_is_err_and}
 use Rattle.std.proofs.lemmas.Option.{slice_get-map}
 use Rattle.machine_data.specs.Write.{set_trapped}
 use Rattle.machine_data.specs.declared.component.ExportDef.{ExportDef}
@@ -16,6 +17,7 @@ use Rattle.ops_state.specs.declared.error.TaskError.{TaskError}
 use Rattle.ops_state.specs.declared.error.TaskError.TheVariants as task_error
 use Rattle.task_loop.proofs.CallStartLemmas.{stop_starts, stop_told}
 use Rattle.task_loop.proofs.HookLemmas.{unfailed}
+use Rattle.task_loop.proofs.LackLemmas.{started_tells, stopped_tells, tells_none}
 use Rattle.task_loop.proofs.MainStartLemmas.{refusal_stepped, shows_refusal, shows_start, start_failed, start_stepped}
 use Rattle.task_loop.specs.LoopCalls.{callee_of}
 use Rattle.task_run.specs.Says.{script_says}
@@ -115,3 +117,24 @@ returns-in-Ok-clause-constants_stay c w = rw w.in-Ok.ensures.keeps.rest refl
 
 pub returns-in-Err-Trap-clause-constants_stay : goal.returns-in-Err-Trap-clause-constants_stay
 returns-in-Err-Trap-clause-constants_stay c w = rw w.in-Err-Trap.ensures.keeps.rest refl
+
+-- ---- It is out of memory
+
+pub returns-in_err-words-clause-steps : goal.returns-in_err-words-clause-steps
+returns-in_err-words-clause-steps c w =
+    let answered = err_from_is_err_and w.from_residual.result w.from_residual.ensures.1 in
+    rw (answered.1, answered.2) (inl (refl, tells_none _ _ refl))
+
+pub returns-in_err-keep-in-Ok-clause-steps : goal.returns-in_err-keep-in-Ok-clause-steps
+returns-in_err-keep-in-Ok-clause-steps c w =
+    let answered = err_from_is_err_and w.from_residual-in_err-keep-in-Ok.result w.from_residual-in_err-keep-in-Ok.ensures.1 in
+    rw (answered.1, answered.2)
+    (inl (refl, started_tells w.args.component.now (callee_of w.args.func) w.as_slice.result.now w.args.access.now.store.now w.in-Ok.call w.start_call_concurrent.new.store w.in-Ok.ensures.does))
+
+pub returns-in_default-keep-clause-steps : goal.returns-in_default-keep-clause-steps
+returns-in_default-keep-clause-steps c w =
+    inl (refl, stopped_tells c.G.TaskGroupHook.listens w.args.access.now.store.now _ w.start_call_concurrent.new.store w.in-Err-Trap.ensures.does)
+
+pub returns-clause-steps : goal.returns-clause-steps
+returns-clause-steps c w =
+    inl (refl, stopped_tells c.G.TaskGroupHook.listens w.args.access.now.store.now _ w.start_call_concurrent.new.store w.in-Err.ensures.does)

@@ -1,9 +1,11 @@
 -- The work that was spawned is queued, and main has its handle.
-use Rattle.std.proofs.Common.{◌∙◌, ◌+◌, ap, refl, subst, sym}
+use Rattle.std.proofs.Common.{◌∙◌, ◌+◌, ap, inl, refl, subst, sym}
 use Rattle.std.specs.Option.{option_map}
 use Rattle.std.specs.Prelude.{IsSome, List, None, Option, slice_get, ℕ}
 use Rattle.std.proofs.lemmas.List.{length-map, map_push}
+use Rattle.std.proofs.lemmas.Result.{err_from_is_err_and}
 use Rattle.std.proofs.lemmas.Option.{slice_get-map}
+use Rattle.task_loop.proofs.LackLemmas.{tells_none}
 use Rattle.task_loop.proofs.MainStepLemmas.{stepped_quietly}
 use Rattle.task_loop.proofs.StartLemmas.{current_still}
 use Rattle.machine_data.specs.Core.{Unscripted}
@@ -55,3 +57,13 @@ returns-clause-steps g w =
     (current_still s.state t.state w.spawn.ensures.spawns.current may.idle ∙ sym may.idle) tt (suits_still d main n w.in_ok-keep_spawn.ensures.ops may.suits)
     (knows_more d (script_of main) (part_of main) (part_of n) l main n s.state t.state w.in-Ok.work w.in_ok-keep_spawn.ensures.spawns w.in-Ok.ensures.spawns.spawned may.order steps (λ id live. w.spawn.ensures.spawns.tags.works id live) may.knows)
     (w.spawn.ensures.spawns.hosts (may.order.order Unscripted).works.made may.works)
+
+-- ---- It is out of memory
+
+pub returns-in_default-spawn-clause-steps : goal.returns-in_default-spawn-clause-steps
+returns-in_default-spawn-clause-steps g w = inl (refl, tells_none _ _ (ap (λ (st : Store _ _ _). st.listeners) w.spawn.ensures.spawns.rest))
+
+pub returns-in_err-keep_spawn-clause-steps : goal.returns-in_err-keep_spawn-clause-steps
+returns-in_err-keep_spawn-clause-steps g w =
+    let answered = err_from_is_err_and w.from_residual.result w.from_residual.ensures.1 in
+    rw (answered.1, answered.2) (inl (refl, tells_none _ _ (ap (λ (st : Store _ _ _). st.listeners) w.spawn.ensures.spawns.rest)))

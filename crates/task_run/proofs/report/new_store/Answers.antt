@@ -1,26 +1,13 @@
 use Rattle.std.proofs.Common.{◌≡◌, ◌<◌, ◌≤◌, ◌+◌, ◌∙◌, refl, suc, ap, arith, ℕ}
-use Rattle.core_counts.specs.Limits.{with_capacity, with_handle_limit}
 use Rattle.core_makes.specs.Instances.{with_instance}
-use Rattle.core_picks.specs.Rules.{with_version}
 use Rattle.machine_data.specs.Core.{fresh}
 use Rattle.machine_data.specs.Maps.{size}
 use Rattle.machine_data.specs.declared.scenario.Version.TheVariants as version
-use Rattle.machine_data.specs.declared.scenario.Version.{Version}
 use Rattle.core_records.specs.Seen.{nothing}
-use Rattle.task_store.proofs.FreshLemmas.{fresh_more, no_calls, size_fresh}
+use Rattle.task_store.proofs.FreshLemmas.{fresh_more, limits_set, no_calls, rules_set, size_fresh}
 use Rattle.ops_turns.proofs.FreshLemmas.{given_fresh}
 use Rattle.core_primitives.specs.StateView.{StateView, with_core}
 use Rattle.task_run.proofs.report.new_store.Goals as goal
-
--- the limits of a new store are set, and its rules stay
-limits_kept : (handles table : ℕ) → with_handle_limit handles (with_capacity table (fresh version.One 0 100000 1000000)) ≡ fresh version.One 0 handles table
-unfolding fresh
-limits_kept handles table = refl
-
--- the rules of a store in which nothing goes on are set
-rules_set : (v : Version) (n handles table : ℕ) → with_version v (fresh version.One n handles table) ≡ fresh v n handles table
-unfolding fresh
-rules_set v n handles table = refl
 
 pub add_instance-requires : goal.add_instance-requires
 add_instance-requires g c =
@@ -53,7 +40,7 @@ pub loop-made-init : goal.loop-made-init
 loop-made-init g c = record {
   state =
       rw (c.set_max_component_handles.ensures, c.set_table_capacity.ensures, c.new-store.ensures.state)
-      (ap (λ s. with_core s nothing) (limits_kept c.args.handles c.args.table));
+      (ap (λ s. with_core s nothing) (limits_set c.args.handles c.args.table));
   free = rw (c.set_max_component_handles.ensures, c.set_table_capacity.ensures) c.new-store.ensures.running;
   concurrent = rw (c.set_max_component_handles.ensures, c.set_table_capacity.ensures) c.new-store.ensures.concurrent;
   works = rw (c.set_max_component_handles.ensures, c.set_table_capacity.ensures) c.new-store.ensures.works;

@@ -4,12 +4,12 @@ use Rattle.text_scenario.proofs.read.read.Goals as goal
 
 pub returns-in-Err-Bad : goal.returns-in-Err-Bad
 returns-in-Err-Bad c =
-    let bad = line_refused c.loop-line.state c.loop-line.number c.loop-line.rest.now c.in-Some.line.now c.in-Some.more.now c.in-Some.ensures.cases (rw c.in-Err-Bad.field-0-is at c.in-Err-Bad.ensures) in
+    let bad = line_refused c.loop-line.state c.loop-line.number c.loop-line.rest.now c.in-Some.line.now c.in-Some.more.now c.in-Some.ensures.cases (rw c.in-Err-Bad.field-0-is at c.in-Err-Bad.ensures.value) in
     sym c.loop-line.invariant.same ∙ bad
 
 pub loop-line-preserved : goal.loop-line-preserved
 loop-line-preserved c =
-    let good = line_taken c.loop-line.state c.add_line.new.state c.loop-line.number c.loop-line.rest.now c.in-Some.line.now c.in-Some.more.now c.in-Some.ensures.cases c.in-Ok.ensures in
+    let good = line_taken c.loop-line.state c.add_line.new.state c.loop-line.number c.loop-line.rest.now c.in-Some.line.now c.in-Some.more.now c.in-Some.ensures.cases c.in-Ok.ensures.value in
     record { same = sym good ∙ c.loop-line.invariant.same; few = omega (arith, c.in-Some.ensures.shorter) }
 
 pub returns : goal.returns

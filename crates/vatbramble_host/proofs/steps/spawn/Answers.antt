@@ -6,6 +6,7 @@ use Rattle.vatbramble_host.specs.Asks.{KnowsSpawns, asking_says}
 use Rattle.vatbramble_host.specs.declared.ask.Answer.TheVariants as answer
 use Rattle.std.proofs.Common.{ap, arith, refl, subst, sym, ◌+◌, ◌-◌, ◌<◌, ◌≡◌, ◌∙◌}
 use Rattle.std.specs.Prelude.{List, ℕ}
+use Rattle.task_loop.proofs.LackLemmas.{tells_none}
 use Rattle.task_loop.proofs.LastLemmas.{spawn_last}
 use Rattle.task_loop.proofs.MainStepLemmas.{stepped_quietly}
 use Rattle.task_loop.proofs.StartLemmas.{current_still}
@@ -43,3 +44,11 @@ returns-clause-step g c =
     stepped_quietly asking_says g.H.HostWork.course d (step.Did (label.Main (main_label.Spawn k i))) main s _ t (ap (λ k. k.listeners) kept.rest) kept.tags.same own refl may.asked
     (current_still s.state t.state kept.current may.idle ∙ sym may.idle) answered tt knows
     (kept.hosts (may.order.order Unscripted).works.made may.works)
+
+-- ---- It is out of memory
+
+pub returns-in_default-clause-err : goal.returns-in_default-clause-err
+returns-in_default-clause-err g c = (refl, tells_none _ _ (ap (λ k. k.listeners) c.spawn.ensures.spawns.rest))
+
+pub returns-in_default-push-clause-err : goal.returns-in_default-push-clause-err
+returns-in_default-push-clause-err g c = (refl, tells_none _ _ (ap (λ k. k.listeners) c.spawn.ensures.spawns.rest))

@@ -7,8 +7,10 @@ use Rattle.ops_state.specs.declared.error.TaskError.{TaskError}
 use Rattle.std.proofs.Common.{ap, arith, refl, subst, sym, ◌+◌, ◌-◌, ◌<◌, ◌≡◌}
 use Rattle.std.specs.Prelude.{Err, Ok, [], false, ℕ}
 use Rattle.ops_calls.specs.MainCalls.{Starts}
+use Rattle.store_notices.specs.Moves.{finishes}
 use Rattle.task_loop.proofs.CallStartLemmas.{stop_starts}
 use Rattle.task_loop.proofs.HookLemmas.{works_trapped}
+use Rattle.task_loop.proofs.LackLemmas.{started_tells}
 use Rattle.task_loop.proofs.LastLemmas.{start_last}
 use Rattle.task_loop.proofs.MainStartLemmas.{refusal_stepped, shows_start, start_stepped}
 use Rattle.task_loop.specs.LoopCalls.{callee_of}
@@ -74,3 +76,13 @@ returns-in-Err-Trap-clause-constants_stay g c = rw c.start_call_concurrent.ensur
 
 pub returns-in-Err-clause-constants_stay : goal.returns-in-Err-clause-constants_stay
 returns-in-Err-clause-constants_stay g c = rw c.start_call_concurrent.ensures.keeps.rest refl
+
+-- ---- It is out of memory
+
+pub returns-in_default-clause-err : goal.returns-in_default-clause-err
+returns-in_default-clause-err g c =
+    (refl, started_tells c.args.component.now (callee_of c.args.func) c.args.words.now c.args.access.now.store.now c.in-Ok.call c.start_call_concurrent.new.store c.in-Ok.ensures.does)
+
+pub returns-in-Err-clause-err : goal.returns-in-Err-clause-err
+returns-in-Err-clause-err g c =
+    (refl, (finishes c.args.access.now.store.now.state.tags.tracked, c.in-Err.ensures.does.unhooked))

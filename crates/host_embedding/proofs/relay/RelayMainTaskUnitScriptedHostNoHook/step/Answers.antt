@@ -3,12 +3,12 @@ use Rattle.task_loop.proofs.OpenMainLemmas.{answers_now}
 use Rattle.host_embedding.proofs.relay.RelayMainTaskUnitScriptedHostNoHook.step.Goals as goal
 use Rattle.host_embedding.specs.Says.{relay_says}
 use Rattle.store_works.specs.declared.scripted.ScriptedHost.{ScriptedHost}
-use Rattle.ops_state.specs.declared.error.TaskError.TheVariants as task_error
 use Rattle.std.proofs.Common.{inl, refl}
-use Rattle.std.specs.Prelude.{Err, IfErr, IfOk, Ok, Result, ◌≡◌}
+use Rattle.std.specs.Prelude.{Err, IfErr, IfOk, Ok, Result}
 use Rattle.ops_state.specs.declared.error.TaskError.{TaskError}
 use Rattle.task_loop.proofs.MainStepLemmas.{stepped_still}
 use Rattle.task_loop.specs.HasRun.{HasStepResult, StepsTo}
+use Rattle.task_loop.specs.Hooked.{LacksOp}
 use Rattle.machine_data.specs.declared.component.Component.{Component}
 use Rattle.task_store.specs.declared.store.Store.{Store}
 use Rattle.host_embedding.specs.declared.relay.Relay.{Relay}
@@ -17,7 +17,7 @@ use Rattle.ops_turns.specs.declared.mains.MainStep.TheVariants as step
 
 -- what a start has resulted in is a step of main
 started_to : {T G : Type 0} (d : Component) (r : Result MainStep TaskError) (m : Relay) (s : Store T ScriptedHost G) (n : Relay) (t : Store T ScriptedHost G) → IfOk r (λ q. HasStepResult relay_says (λ (w : ScriptedHost). w.left) d q m s n t) →
-    IfErr r (λ e. e ≡ task_error.NoMemory) → StepsTo relay_says (λ (w : ScriptedHost). w.left) d r m s n t
+    IfErr r (λ e. LacksOp e s.listeners t.listeners) → StepsTo relay_says (λ (w : ScriptedHost). w.left) d r m s n t
 started_to d (Ok q) m s n t did err = did
 started_to d (Err e) m s n t did err = inl err
 

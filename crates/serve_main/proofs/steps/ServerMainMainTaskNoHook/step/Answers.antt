@@ -2,7 +2,12 @@
 use Rattle.serve_main.proofs.SaysLemmas.{after_wait, may_serve, served, waited_on}
 use Rattle.serve_main.proofs.steps.ServerMainMainTaskNoHook.step.Goals as goal
 use Rattle.serve_main.specs.Steps.{HasStepResult, HasWaited}
-use Rattle.std.proofs.Common.{rules}
+use Rattle.task_group.specs.Listeners.{Listeners}
+use Rattle.task_loop.proofs.LackLemmas.{tells_none}
+use Rattle.task_loop.specs.Hooked.{LacksOp}
+use Rattle.task_loop.specs.Told.{TellsSome}
+use Rattle.std.proofs.Common.{inl, refl, rules, subst}
+use Rattle.std.proofs.lemmas.Result.{err_from_is_err_and}
 
 pub reply_refusal-requires-clause-may : goal.reply_refusal-requires-clause-may
 reply_refusal-requires-clause-may g c = may_serve g.H.HostWork.course c.args.component.now c.args.self.now c.args.access.now.store.now c.requires.may
@@ -45,3 +50,18 @@ returns-clause-steps g c =
     let waited : HasWaited course d m s k u = search rules in
     let again : HasWaited course d k u n t = search rules in
     served course d m s c.rest.result n t c.requires.may.suits (after_wait course d m s n t (waited_on course d m s k u waited n t again) c.rest.result n t c.rest.ensures.step)
+
+-- ---- It is out of memory
+
+pub returns-then-not-trapped-clause-steps : goal.returns-then-not-trapped-clause-steps
+returns-then-not-trapped-clause-steps g c = inl (refl, tells_none _ _ refl)
+
+pub returns-in_err-step-clause-steps : goal.returns-in_err-step-clause-steps
+returns-in_err-step-clause-steps g c =
+    let s = c.args.access.now.store.now in
+    let u = c.finish_next.new.access.store.now in
+    let t = c.start_next.new.access.store.now in
+    let waited : HasWaited g.H.HostWork.course c.args.component.now c.args.self.now s c.finish_next.new.main u = search rules in
+    let lacks : LacksOp _ u.listeners t.listeners = c.in_err-step.ensures.err in
+    let answered = err_from_is_err_and c.from_residual.result c.from_residual.ensures.1 in
+    rw (answered.1, answered.2) (inl (lacks.0, subst (λ (l : Listeners). TellsSome l t.listeners) waited.listeners lacks.1))

@@ -319,7 +319,7 @@ returns-in_default-compute-clause-gone g c =
     let op_result = c.turn-stepped.ensures.turned.made made in
     let ongoing = made_open q made c.in_default.not-Over in
     let goes = come_goes says course d a u n come v r q made ongoing op_result c.turn-stepped.ensures.keeps in
-    come_short says course d a (record v { turn = turn_of q }) (n + 1) goes c.args.steps c.compute.new.trace c.in_default-compute.ensures.err
+    come_short says course d a (record v { turn = turn_of q }) (n + 1) goes c.args.steps c.compute.new.trace c.in_default-compute.ensures.err c.compute.new.w.tags.tracked (ap (λ (ts : Tags). ts.tracked) c.in_default-compute.ensures.works.tags)
 
 -- ---- What stays
 

@@ -1,5 +1,5 @@
 -- The work that another thread has aborted is aborted in the core, and polled: so it ends.
-use Rattle.std.proofs.Common.{ap, subst, sym, ◌∙◌}
+use Rattle.std.proofs.Common.{ap, refl, subst, sym, ◌∙◌}
 use Rattle.std.specs.Prelude.{IfSome, Option, Some, [], true, ℕ, ◌++◌, ◌∷◌, ◌≡◌}
 use Rattle.laws_beside.specs.Wide.{is_running}
 use Rattle.machine_data.specs.Core.{Unscripted}
@@ -13,7 +13,7 @@ use Rattle.ops_turns.specs.Turn.{running_of}
 use Rattle.task_loop.proofs.BesideLemmas.{ended_aborted, settled_still}
 use Rattle.task_loop.proofs.IdleLemmas.{none_current}
 use Rattle.task_loop.proofs.run.RunConcurrent.meet_abort.Goals as goal
-use Rattle.task_loop.specs.Beside.{HasEndedAborted, IsFound, IsNextAborted}
+use Rattle.task_loop.specs.Beside.{HasAskedNext, HasEndedAborted, IsFound, IsNextAborted}
 use Rattle.task_loop.specs.Constants.{constants}
 use Rattle.task_store.specs.declared.spawn.SpawnHandle.{SpawnHandle}
 
@@ -88,3 +88,17 @@ returns-clause-met g c =
         ),
       ),
     )
+
+pub returns-in_default-clause-asked : goal.returns-in_default-clause-asked
+returns-in_default-clause-asked g c =
+    subst (λ (o : Option ℕ). HasAskedNext g.B.Beside.polled o c.args.main.now c.args.beside.now c.args.beside.now) c.in_default.ensures refl
+
+pub returns-in_default-found-clause-asked : goal.returns-in_default-found-clause-asked
+returns-in_default-found-clause-asked g c =
+    let next = sym c.in-Some.ensures ∙ ap (λ (n : ℕ). Some n) (sym c.work_number-number.ensures) in
+    subst (λ (o : Option ℕ). HasAskedNext g.B.Beside.polled o c.args.main.now c.args.beside.now c.polls-2.new.self) (sym next) c.in-Ok-polls.ensures.polled
+
+pub returns-clause-asked : goal.returns-clause-asked
+returns-clause-asked g c =
+    let next = sym c.in-Some.ensures ∙ ap (λ (n : ℕ). Some n) (sym c.work_number-number.ensures) in
+    subst (λ (o : Option ℕ). HasAskedNext g.B.Beside.polled o c.args.main.now c.args.beside.now c.polls-2.new.self) (sym next) c.in-Ok-polls.ensures.polled

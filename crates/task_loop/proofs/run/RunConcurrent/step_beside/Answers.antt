@@ -4,11 +4,13 @@ use Rattle.std.specs.Prelude.{Bool, Option, false, true, ℕ, ◌≡◌}
 use Rattle.laws_beside.specs.Wide.{requested}
 use Rattle.machine_data.specs.declared.label.Label.TheVariants as label
 use Rattle.machine_data.specs.declared.label.LoopLabel.TheVariants as loop_label
+use Rattle.machine_data.specs.declared.records.Turn.{Turn}
+use Rattle.machine_data.specs.declared.records.Turn.TheVariants as turn
 use Rattle.ops_turns.specs.Turn.{runs_in}
 use Rattle.run_trace.specs.declared.yield_budget.YieldBudget.{YieldBudget}
-use Rattle.task_loop.proofs.BesideLemmas.{abort_met, all_stays, drives_beside, main_stays, request_met}
+use Rattle.task_loop.proofs.BesideLemmas.{abort_met, all_stays, asked_else, asked_still, drives_beside, main_stays, request_met}
 use Rattle.task_loop.proofs.run.RunConcurrent.step_beside.Goals as goal
-use Rattle.task_loop.specs.Beside.{HasFound, MetAbort, StepsBeside}
+use Rattle.task_loop.specs.Beside.{HasAskedAt, HasFound, MetAbort, StepsBeside}
 use Rattle.task_loop.specs.HasRun.{Keeps, MayRun, at}
 use Rattle.task_loop.specs.declared.run.RunConcurrent.{RunConcurrent}
 use Rattle.ops_turns.specs.StepResult.{turn_of}
@@ -41,6 +43,31 @@ returns-in-Ok-push-clause-steps g c =
     let b = at c.args.self.now n s c.push.new.self in
     let passed = subst (λ (o : Option ℕ). HasFound says o m n s.state) c.in-Some.is c.in-Ok.ensures.found in
     inl (requested c.in-Some.spawn, (request_met says g.H.HostWork.course c.args.component.now a b c.requires.may c.in-Some.spawn (sym c.turn_of.ensures ∙ c.in-Main.is) passed refl refl (rw (← c.trace.view_is) c.in-Ok-push.ensures.ok), refl))
+
+pub returns-in-Ok-push-clause-asked : goal.returns-in-Ok-push-clause-asked
+returns-in-Ok-push-clause-asked g c =
+    let core = c.args.store.now.state.core in
+    let at : turn_of c.args.self.now.last ≡ turn.Main = sym c.turn_of.ensures ∙ c.in-Main.is in
+    subst (λ (u : Turn). HasAskedAt g.B.Beside.polled g.B.Beside.turned u core c.args.main.now c.args.beside.now c.turns.new.self) (sym at) c.in-Ok.ensures.turned
+
+pub returns-in-None-clause-asked : goal.returns-in-None-clause-asked
+returns-in-None-clause-asked g c =
+    let core = c.args.store.now.state.core in
+    let at : turn_of c.args.self.now.last ≡ turn.Main = sym c.turn_of.ensures ∙ c.in-Main.is in
+    asked_still _ c.drive.result (subst (λ (u : Turn). HasAskedAt g.B.Beside.polled g.B.Beside.turned u core c.args.main.now c.args.beside.now c.turns.new.self) (sym at) c.in-Ok.ensures.turned)
+
+pub returns-then-met-clause-asked : goal.returns-then-met-clause-asked
+returns-then-met-clause-asked g c =
+    let core = c.args.store.now.state.core in
+    let at : turn_of c.args.self.now.last ≡ turn.Futures c.in-Futures.polled = sym c.turn_of.ensures ∙ c.in-Futures.is in
+    subst (λ (u : Turn). HasAskedAt g.B.Beside.polled g.B.Beside.turned u core c.args.main.now c.args.beside.now c.meet_abort.new.beside) (sym at) c.in-Ok-meet_abort.ensures.asked
+
+pub returns-else-met-clause-asked : goal.returns-else-met-clause-asked
+returns-else-met-clause-asked g c =
+    let core = c.args.store.now.state.core in
+    let at : turn_of c.args.self.now.last ≡ turn.Futures c.in-Futures.polled = sym c.turn_of.ensures ∙ c.in-Futures.is in
+    asked_still _ c.drive-in-Futures.result
+    (subst (λ (u : Turn). HasAskedAt g.B.Beside.polled g.B.Beside.turned u core c.args.main.now c.args.beside.now c.meet_abort.new.beside) (sym at) c.in-Ok-meet_abort.ensures.asked)
 
 pub drive-requires : goal.drive-requires
 drive-requires g c =
@@ -164,6 +191,9 @@ returns-in_default g c =
     record {
       keeps = c.drive-in_default.ensures.keeps;
       beside = g.B.Beside.same c.args.beside.now;
+      asked = asked_still _ c.drive-in_default.result
+          (subst (λ (u : Turn). HasAskedAt g.B.Beside.polled g.B.Beside.turned u c.args.store.now.state.core c.args.main.now c.args.beside.now c.args.beside.now) c.turn_of.ensures
+          (asked_else g.B.Beside.polled g.B.Beside.turned c.turn_of.result c.args.store.now.state.core c.args.main.now c.args.beside.now c.in_default.not-Main c.in_default.not-Futures));
       steps = drives_beside g.M.MainTask.says g.H.HostWork.course c.args.component.now g.G.TaskGroupHook.listens c.drive-in_default.result c.args.self.now.yield_budget a (at last.self last.main last.store last.trace)
           last.self.yield_budget c.drive-in_default.ensures.drives;
     }

@@ -5,6 +5,7 @@ use Rattle.task_loop.proofs.DoesLemmas.{still, still_run}
 use Rattle.task_loop.proofs.HasRunLemmas.{at_turn}
 use Rattle.task_loop.proofs.HookLemmas.{stops_after}
 use Rattle.task_loop.proofs.KnowsLemmas.{by_poll, by_run}
+use Rattle.task_loop.proofs.LackLemmas.{tells_none}
 use Rattle.task_loop.proofs.TakenLemmas.{any_turns}
 use Rattle.task_loop.proofs.ToldLemmas.{current_is, other_told, run_turns, told_turn, turns_runs}
 use Rattle.task_loop.proofs.TurnLemmas.{took}
@@ -114,7 +115,7 @@ returns-in-Run-clause-turned g c =
             asked = ran.asked;
           };
       nothing = λ is. absurd (c.run_thread.ensures.ran.nothing is);
-      full = λ is. let lost = c.run_thread.ensures.ran.full is in record { trace = lost.0; main = λ other. refl; untold = λ other. lost.1 };
+      full = λ is. let lost = c.run_thread.ensures.ran.full is in record { trace = lost.0; main = λ other. refl; untold = λ other. lost.1.0; told = tells_none _ _ lost.1.0; groups = λ other. lost.1.1 };
       failed = λ is.
           let failed = c.run_thread.ensures.ran.failed is in
           let fails = failed.0 in
@@ -184,7 +185,7 @@ returns-in-Futures-clause-turned g c =
             asked = told.asked;
           };
       nothing = λ is. absurd (c.poll_work.ensures.polled.nothing is);
-      full = λ is. let lost = c.poll_work.ensures.polled.full is in record { trace = lost.0; main = λ other. refl; untold = λ other. lost.1 };
+      full = λ is. let lost = c.poll_work.ensures.polled.full is in record { trace = lost.0; main = λ other. refl; untold = λ other. lost.1.0; told = tells_none _ _ lost.1.0; groups = λ other. lost.1.1 };
       failed = λ is.
           let failed = c.poll_work.ensures.polled.failed is in
           let fails = failed.0 in

@@ -4,6 +4,7 @@ use Rattle.std.specs.Prelude.{List, [], false, ℕ, ◌++◌, ◌∷◌, ◌≡�
 use Rattle.task_group.specs.Listeners.{ToldListeners}
 use Rattle.task_loop.proofs.CallStartLemmas.{start_told, stop_starts}
 use Rattle.task_loop.proofs.HookLemmas.{knows_trapped}
+use Rattle.task_loop.proofs.LackLemmas.{tells_none}
 use Rattle.task_loop.specs.LoopCalls.{callee_of}
 use Rattle.machine_data.specs.declared.records.NoticeKind.TheVariants as notice
 use Rattle.task_nursery.proofs.KeptLemmas.{are_later, are_more}
@@ -62,4 +63,14 @@ returns-in-Err-clause-begins g c =
       told = λ holds. rw c.refusal.ensures (tells_refused s t c.in-Err.e c.in-Err.ensures.does.unhooked);
       of = rw c.make_room.ensures.children
           (knows_trapped AreOf ks ks s.state t.state refl c.in-Err.ensures.does.state (λ u last had. are_later ks s.state u last had) are);
+    }
+
+-- there is no room for a child more
+pub returns-then-is_err-clause-begins : goal.returns-then-is_err-clause-begins
+returns-then-is_err-clause-begins g c =
+    record {
+      refuses = search rules;
+      begins = λ unclosed room. search rules;
+      told = λ holds. tells_none _ _ refl;
+      of = search rules;
     }
