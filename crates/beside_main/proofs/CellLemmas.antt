@@ -6,18 +6,24 @@ use Rattle.beside_works.proofs.NewLemmas.{got}
 use Rattle.beside_works.specs.Aborters.{AreNew as NewAborters, CanMeet, HaveRun, NoneOutOfMemory, briefs, with_all}
 use Rattle.beside_works.specs.Counts.{brief, counts_in, later, met_count, met_of, with_each}
 use Rattle.beside_works.specs.declared.line.Aborter.{Aborter}
-use Rattle.beside_main.specs.Cells.{AreEarly, AreLogsOf, AreMet, AreNew, IsLog, KeepsCell, KeepsCells}
-use Rattle.beside_main.specs.Headline.{IsLogOf}
+use Rattle.beside_main.proofs.CallLemmas.{called_at}
+use Rattle.beside_main.proofs.EntryLemmas.{numbered_briefs}
+use Rattle.beside_main.specs.Calls.{AreCalled, IsEarly}
+use Rattle.beside_main.specs.Cells.{AreCounts, AreEarly, AreLogsOf, AreMet, AreNew, IsLog, KeepsCell, KeepsCells}
+use Rattle.beside_main.specs.Headline.{HasEntries, IsLogOf}
 use Rattle.beside_main.specs.Same.{same_cell, same_cells}
 use Rattle.beside_works.specs.Shared.{listed}
 use Rattle.beside_works.specs.Views.{met_list, own_list, spawn_cell, spawn_view, split_count}
 use Rattle.beside_works.specs.declared.cells.SharedSpawn.{SharedSpawn}
 use Rattle.beside_works.specs.declared.log.Found.{Found}
 use Rattle.std.proofs.Common.{ap, ap₂, arith, get_or, inl, inr, length, map, refl, subst, sym, take, ⊎_elim, ◌∙◌}
-use Rattle.std.proofs.lemmas.List.{length-map, take_more}
+use Rattle.std.proofs.lemmas.List.{length-map, map-append, take_more}
 use Rattle.std.proofs.lemmas.Option.{same_Some}
-use Rattle.std.specs.Prelude.{Bool, List, Some, [], false, slice_get, slice_set, suc, true, zero, ℕ, ◌++◌, ◌+◌, ◌<◌, ◌∷◌, ◌≡◌, ◌⊎◌}
-use Rattle.task_abort.specs.Staged.{Aborter as Listed, LastRound}
+use Rattle.std.specs.Prelude.{Bool, List, None, Some, [], false, slice_get, slice_set, suc, true, zero, ℕ, ◌++◌, ◌+◌, ◌<◌, ◌∷◌, ◌≡◌, ◌≤◌, ◌⊎◌}
+use Rattle.laws_beside.specs.Courses.{Own, none_called}
+use Rattle.task_abort.specs.PhaseLog.{first_view}
+use Rattle.task_abort.specs.Staged.{Aborter as Listed, LastRound, staged, told}
+use Rattle.task_abort.specs.declared.log.CallMade.{CallMade}
 use Rattle.task_abort.specs.declared.log.LogEntry.{LogEntry}
 use Rattle.machine_data.specs.Read.{is_nil}
 use Rattle.machine_data.specs.declared.scenario.ScenarioDef.{ScenarioDef}
@@ -88,29 +94,63 @@ last_or (z ∷ xs) x y (suc k) at = ⊎_elim (λ here. inl here) (λ last. inr (
 none_at : (k : ℕ) (log : List (LogEntry ℕ)) → slice_get [] k ≡ Some log → ⊥
 none_at k log at = absurd (cc)
 
-pub logs_none : (cells : List SharedSpawn) (logs : List (List (LogEntry ℕ))) → logs ≡ [] → AreLogsOf cells logs
-logs_none cells logs is k log at = absurd (none_at k log (subst (λ (ls : List (List (LogEntry ℕ))). slice_get ls k ≡ Some log) is at))
+pub logs_none : (cells : List SharedSpawn) (early : List ℕ) (logs : List (List (LogEntry ℕ))) → logs ≡ [] → AreLogsOf cells early logs
+logs_none cells early logs is k log at = absurd (none_at k log (subst (λ (ls : List (List (LogEntry ℕ))). slice_get ls k ≡ Some log) is at))
 
-pub logs_more : (cells : List SharedSpawn) (logs : List (List (LogEntry ℕ))) (log : List (LogEntry ℕ)) (i : ℕ) (s : SharedSpawn) → AreLogsOf cells logs → length logs ≡ i →
-    slice_get cells i ≡ Some s → IsLog s log → AreLogsOf cells (logs ++ log ∷ [])
-logs_more cells logs log i s are count at is k l here = ⊎_elim (are k l) last (last_or logs log l k here)
+pub logs_more : (cells : List SharedSpawn) (early : List ℕ) (logs : List (List (LogEntry ℕ))) (log : List (LogEntry ℕ)) (i : ℕ) (s : SharedSpawn) (n : ℕ) → AreLogsOf cells early logs →
+    length logs ≡ i → slice_get cells i ≡ Some s → slice_get early i ≡ Some n → IsLog s n log → AreLogsOf cells early (logs ++ log ∷ [])
+logs_more cells early logs log i s n are count at here is k l there = ⊎_elim (are k l) last (last_or logs log l k there)
   where
-    last : (k ≡ length logs) × (log ≡ l) → (t : SharedSpawn) × ((slice_get cells k ≡ Some t) × IsLog t l)
-    last q = (s, (ap (slice_get cells) (q.0 ∙ count) ∙ at, subst (λ (m : List (LogEntry ℕ)). IsLog s m) q.1 is))
+    last : (k ≡ length logs) × (log ≡ l) → (t : SharedSpawn) × ((m : ℕ) × ((slice_get cells k ≡ Some t) × ((slice_get early k ≡ Some m) × IsLog t m l)))
+    last q = (s, (n, (ap (slice_get cells) (q.0 ∙ count) ∙ at, (ap (slice_get early) (q.0 ∙ count) ∙ here, subst (λ (m : List (LogEntry ℕ)). IsLog s n m) q.1 is))))
+
+-- each cell has its count
+pub early_there : (cells : List SharedSpawn) (ns : List ℕ) (k : ℕ) → AreEarly cells ns → k < length cells → slice_get ns k ≡ None → ⊥
+early_there [] ns k early lt none = omega (arith, lt)
+early_there (s ∷ cells) [] k early lt none = early
+early_there (s ∷ cells) (n ∷ ns) zero early lt none = absurd (cc)
+early_there (s ∷ cells) (n ∷ ns) (suc k) early lt none = early_there cells ns k early.1 (omega (arith, lt)) none
+
+-- the counts of the first cells, with that of one cell more
+pub counts_next : (cells : List SharedSpawn) (ns ms : List ℕ) (i n : ℕ) (d : SharedSpawn) → i < length cells → AreCounts (take i cells) ns → n ≡ length (own_list (get_or cells i d)) →
+    ms ≡ ns ++ n ∷ [] → AreCounts (take (i + 1) cells) ms
+counts_next cells ns ms i n d lt counts is more =
+    more ∙ (ap₂ (λ (ks : List ℕ) (m : ℕ). ks ++ m ∷ []) counts is
+    ∙ (sym (map-append (λ (s : SharedSpawn). length (own_list s)) (take i cells) (get_or cells i d ∷ [])) ∙ ap (map (λ (s : SharedSpawn). length (own_list s))) (sym (take_more cells i d lt))))
+
+-- so they are of the calls of the run, all of which are early
+pub counts_early : (own : Own) (cells : List SharedSpawn) (ns : List ℕ) → AreCounts cells ns → AreCalled own.calls 1 cells → IsEarly own → (k n : ℕ) → slice_get ns k ≡ Some n → n ≡ own.early (k + 1)
+counts_early own cells ns counts called early k n at = by cells 1 k (k + 1) refl called (ap (λ (ms : List ℕ). slice_get ms k) (sym counts) ∙ at) ∙ sym (early (k + 1))
+  where
+    by : (cs : List SharedSpawn) (j q i : ℕ) → i ≡ q + j → AreCalled own.calls j cs → slice_get (map (λ (s : SharedSpawn). length (own_list s)) cs) q ≡ Some n → n ≡ length (own.calls i)
+    by [] j q i number called at = absurd (cc)
+    by (c ∷ cs) j zero i number called at =
+        let here : j ≡ i = omega (arith, number) in
+        sym (same_Some _ _ at) ∙ (sym (length-map (own_list c) (λ (m : CallMade). m.call)) ∙ (ap length called.0 ∙ ap (λ (m : ℕ). length (own.calls m)) here))
+    by (c ∷ cs) j (suc q) i number called at = by cs (j + 1) q i (omega (arith, number)) called.1 at
+
+-- new cells have no call
+pub new_called : (cells : List SharedSpawn) (k : ℕ) → AreNew cells → AreCalled none_called.calls k cells
+new_called [] k new = tt
+new_called (s ∷ cells) k new = (ap (map (λ (m : CallMade). m.call)) new.0.1.1, new_called cells (k + 1) new.1)
 
 -- ---- New cells
 
-pub new_more : (olds : List SharedSpawn) (a : SharedSpawn) → AreNew olds → split_count a ≡ 0 → met_list a ≡ [] → AreNew (olds ++ a ∷ [])
-new_more [] a new split met = ((split, met), tt)
-new_more (b ∷ olds) a new split met = (new.0, new_more olds a new.1 split met)
+pub new_more : (olds : List SharedSpawn) (a : SharedSpawn) → AreNew olds → split_count a ≡ 0 → met_list a ≡ [] → own_list a ≡ [] → AreNew (olds ++ a ∷ [])
+new_more [] a new split met own = ((split, (met, own)), tt)
+new_more (b ∷ olds) a new split met own = (new.0, new_more olds a new.1 split met own)
+
+-- as the pass sees none
+pub none_listed_yet : (a : SharedSpawn) → spawn_view a ≡ first_view → own_list a ≡ []
+none_listed_yet a view = a.listed ∙ ap (λ v. map told v.own.calls) view
 
 pub new_met : (olds : List SharedSpawn) → AreNew olds → AreMet olds
 new_met [] new = refl
-new_met (a ∷ olds) new = ap₂ (λ (n : ℕ) (ns : List ℕ). n ∷ ns) (new.0.0 ∙ sym (ap length new.0.1)) (new_met olds new.1)
+new_met (a ∷ olds) new = ap₂ (λ (n : ℕ) (ns : List ℕ). n ∷ ns) (new.0.0 ∙ sym (ap length new.0.1.0)) (new_met olds new.1)
 
 new_at : (olds : List SharedSpawn) (k : ℕ) → AreNew olds → k < length olds → slice_get (map met_of olds) k ≡ Some []
 new_at [] k new lt = absurd (omega (arith, lt))
-new_at (a ∷ olds) zero new lt = ap (λ (fs : List Found). Some (map brief fs)) new.0.1
+new_at (a ∷ olds) zero new lt = ap (λ (fs : List Found). Some (map brief fs)) new.0.1.0
 new_at (a ∷ olds) (suc k) new lt = new_at olds k new.1 (omega (arith, lt))
 
 counts_of : (olds bs : List SharedSpawn) → map met_list bs ≡ map met_list olds → map met_count bs ≡ map met_count olds
@@ -135,6 +175,11 @@ at_within [] k x at = absurd (cc)
 at_within (y ∷ ys) zero x at = omega arith
 at_within (y ∷ ys) (suc k) x at = omega (arith, at_within ys k x at)
 
+pub none_behind : {A : Type 0} (xs : List A) (k : ℕ) → slice_get xs k ≡ None → length xs ≤ k
+none_behind [] k none = omega arith
+none_behind (x ∷ xs) zero none = absurd (cc)
+none_behind (x ∷ xs) (suc k) none = let rest = none_behind xs k none in omega (arith, rest)
+
 -- ---- What is listed
 
 -- the aborters of a log's lists are those of the cell
@@ -145,16 +190,22 @@ listed_briefs (f ∷ fs) = ap (λ (bs : List (ℕ × ℕ)). brief f ∷ bs) (lis
 abbrev pub AreListed : List (List ℕ) → List SharedSpawn → Type 0
 AreListed lines cells = (k : ℕ) (s : SharedSpawn) → slice_get cells k ≡ Some s → met_of s ≡ briefs lines 1 (k + 1)
 
-pub logs_listed : (x : ScenarioDef) (cells : List SharedSpawn) (logs : List (List (LogEntry ℕ))) → AreListed x.aborters cells → AreLogsOf cells logs →
-    (k : ℕ) (log : List (LogEntry ℕ)) → slice_get logs k ≡ Some log → IsLogOf x (k + 1) log
-logs_listed x cells logs each are k log at =
-    let found = are k log at in let s = found.0 in let is = found.1.1 in record {
+pub logs_listed : (x : ScenarioDef) (own : Own) (cells : List SharedSpawn) (ns : List ℕ) (logs : List (List (LogEntry ℕ))) → AreListed x.aborters cells → AreCalled own.calls 1 cells →
+    ((k n : ℕ) → slice_get ns k ≡ Some n → n ≡ own.early (k + 1)) → AreLogsOf cells ns logs → (k : ℕ) (log : List (LogEntry ℕ)) → slice_get logs k ≡ Some log → IsLogOf x own (k + 1) log
+logs_listed x own cells ns logs each called early are k log at =
+    let found = are k log at in
+    let s = found.0 in
+    let n = found.1.0 in
+    let is = found.1.1.1.1 in
+    record {
       own = own_list s;
+      calls = called_at own.calls 1 k (k + 1) cells s refl called found.1.1.0;
       aborters = listed (met_list s);
-      early = is.early;
-      staged = is.staged;
+      staged = is.staged ∙ ap (λ (m : ℕ). staged (own_list s) (listed (met_list s)) m) (early k n found.1.1.1.0);
       legal = is.legal;
-      each = listed_briefs (met_list s) ∙ each k s found.1.0;
+      each = listed_briefs (met_list s) ∙ each k s found.1.1.0;
+      entries = subst (λ (m : ℕ). HasEntries (own_list s) (listed (met_list s)) m log) (early k n found.1.1.1.0)
+          (is.entries (numbered_briefs x.aborters 0 (k + 1) (listed (met_list s)) (listed_briefs (met_list s) ∙ each k s found.1.1.0)));
     }
 
 -- with no aborter none is listed

@@ -1,4 +1,5 @@
 pub mod CellLemmas
+pub mod EntryLemmas
 pub mod CourseLemmas
 pub mod MetLemmas
 pub mod GateLemmas
@@ -6,3 +7,9 @@ pub mod ReportLemmas
 pub mod RoundLemmas
 pub mod ToolLemmas
 pub mod AllMetLemmas
+pub mod CallLemmas
+pub mod FollowLemmas
+pub mod RisingLemmas
+pub mod SpawnedLemmas
+pub mod StepLemmas
+pub mod PollLemmas

@@ -2,22 +2,29 @@
 use Rattle.laws_beside.proofs.CourseLemmas.{round_ends, round_goes}
 use Rattle.laws_beside.proofs.RoundLemmas.{spawns_are_next}
 use Rattle.laws_beside.specs.Courses.{InRound, IsOn, Own, at_take, polled_label, with_poll}
-use Rattle.laws_beside.specs.Wide.{Made, Wide, is_running_spawn, next_spawn}
+use Rattle.laws_beside.specs.Own.{calls_from, if_same, number_of}
+use Rattle.laws_beside.specs.Wide.{Made, Wide, next_spawn}
+use Rattle.beside_main.proofs.CallLemmas.{adds_as, adds_none}
 use Rattle.beside_main.proofs.CellLemmas.{cells_then}
+use Rattle.beside_main.proofs.FollowLemmas.{follows_poll, follows_same, follows_then}
+use Rattle.beside_main.proofs.StepLemmas.{Polls, last_calls, last_noted}
+use Rattle.beside_main.specs.Calls.{Follows, NotesOver, ends_work, finish_if}
 use Rattle.beside_main.specs.Same.{same_cells}
 use Rattle.beside_main.proofs.CourseLemmas.{same_setting}
 use Rattle.beside_main.specs.Cells.{KeepsCells}
-use Rattle.beside_main.specs.Course.{Able, KeepsAsked, course, gated_says, place}
+use Rattle.beside_main.specs.Course.{Able, course, gated_says, place}
 use Rattle.beside_main.specs.Round.{Going, Polled, PolledNext, RoundMade}
 use Rattle.beside_main.specs.declared.asked.Cells.{Cells}
 use Rattle.beside_main.specs.declared.run.BesideRun.{BesideRun}
 use Rattle.std.proofs.Common.{ap, arith, refl, subst, sym, ◌∙◌}
 use Rattle.std.proofs.lemmas.Option.{same_Some}
+use Rattle.std.specs.List.{last_or}
 use Rattle.std.specs.Prelude.{Bool, List, None, Option, Some, [], cond, false, true, ℕ, ◌+◌, ◌++◌, ◌∷◌, ◌≡◌}
 use Rattle.laws_states.proofs.PolledWorks.{polled_is_live}
-use Rattle.task_loop.specs.Beside.{HasPolledLast}
+use Rattle.task_abort.specs.declared.log.PhaseCall.TheVariants.{Finish, PollFuture}
+use Rattle.task_loop.specs.Beside.{HasAskedNext, HasPolledLast}
 use Rattle.task_loop.specs.HasRun.{Keeps, MayTakeTurn, state}
-use Rattle.machine_data.specs.Core.{Core, State}
+use Rattle.machine_data.specs.Core.{Core, Main, MainPlace, Scripted, State}
 use Rattle.machine_data.specs.Maps.{get}
 use Rattle.machine_data.specs.Read.{work_caller_of}
 use Rattle.machine_data.specs.declared.component.Component.{Component}
@@ -26,10 +33,10 @@ use Rattle.machine_data.specs.declared.records.Turn.TheVariants as turn
 use Rattle.machine_data.specs.declared.records.Work.{Work}
 use Rattle.machine_data.specs.declared.records.WorkCaller.{WorkCaller}
 use Rattle.machine_data.specs.declared.records.WorkCaller.TheVariants as callers
-use Rattle.machine_rules.specs.MainOps.{is_spawn, is_spawn_caller}
+use Rattle.machine_rules.specs.MainOps.{is_spawn, is_spawn_caller, spawned_at}
 use Rattle.machine_rules.specs.Stalled.{Setting}
-use Rattle.machine_rules.specs.Works.{next_polled, poll_ends}
-use Rattle.task_run.specs.Script.{part_of}
+use Rattle.machine_rules.specs.Works.{next_polled}
+use Rattle.task_run.specs.Script.{part_of, place_of}
 use Rattle.ops_turns.specs.Turn.{is_open, runs_in}
 use Rattle.core_primitives.specs.Live.{live_work_caller}
 use Rattle.core_primitives.specs.Names.{work_caller_in}
@@ -88,9 +95,10 @@ module _ {E : Type 0} (c : Component) where
   -- ---- One poll
 
   -- it pends, or another thread's abort was found
-  pub polled_last : (polled : ℕ) (a b : BesideRun E) → Able c a → b.left + 1 ≡ a.left → b.main ≡ a.main → KeepsAsked a.cells b.cells → Keeps gated_says (place a) (place b) →
-      HasPolledLast gated_says course c polled (place a) (place b) → PolledNext c polled a b
-  polled_last polled a b able less main cells keeps polls = (
+  pub polled_last : (polled : ℕ) (a b : BesideRun E) (mid : Cells) → (able : Able c a) → b.left + 1 ≡ a.left → b.main ≡ a.main → KeepsCells a.cells.list.items b.cells.list.items →
+      Keeps gated_says (place a) (place b) → HasPolledLast gated_says course c polled (place a) (place b) → HasAskedNext Polls (next_polled polled a.store.state.core) a.main a.cells mid →
+      mid.spawns ≡ a.cells.spawns → b.cells.spawns ≡ mid.spawns → NotesOver (ends_work (last_or None b.trace)) mid b.cells → PolledNext c polled a b
+  polled_last polled a b mid able less main cells keeps polls asked same kept over = (
     polls.number,
     (
       polls.found,
@@ -105,6 +113,7 @@ module _ {E : Type 0} (c : Component) where
               few = let more = polls.few in let first = able.few in omega (arith, more, first, less);
             };
             few = let more = polls.few in let first = able.few in omega (arith, more, first, less);
+            noted = last_noted c a able polls.number polls.found b mid main same kept over.1 polls.running polls.core;
           };
           cells = cells;
           main = main;
@@ -115,6 +124,7 @@ module _ {E : Type 0} (c : Component) where
           turn = polls.turn;
           core = polls.core;
           running = polls.running;
+          calls = last_calls c a able polled polls.number polls.found b mid polls.next asked polls.trace over;
         },
       ),
     ),
@@ -124,29 +134,11 @@ module _ {E : Type 0} (c : Component) where
       still_open true = refl
       still_open false = able.may.unfinished
 
-  -- and the cells were told what is over
-  pub polled_cells : (polled : ℕ) (a b : BesideRun E) (cells : Cells) → PolledNext c polled a b → KeepsAsked b.cells cells → PolledNext c polled a (record b { cells = cells })
-  polled_cells polled a b cells q keeps = let p = q.1.1.1 in (
-    q.0,
-    (
-      q.1.0,
-      (
-        q.1.1.0,
-        record {
-          able = record { may = p.able.may; few = p.able.few };
-          cells = cells_then a.cells.list.items b.cells.list.items cells.list.items p.cells keeps;
-          main = p.main;
-          idle = p.idle;
-          concurrent = p.concurrent;
-          left = p.left;
-          trace = p.trace;
-          turn = p.turn;
-          core = p.core;
-          running = p.running;
-        },
-      ),
-    ),
-  )
+-- the calls of a poll are what its label shows
+poll_shows : (x : Setting) (s : State) (p : MainPlace) (i : ℕ) (found : Bool) (k : ℕ) → s.main ≡ Scripted p →
+    if_same i (spawned_at p k) (PollFuture ∷ finish_if found) ≡ calls_from x k (at_take s) (polled_label found i)
+poll_shows x s p i true k main = ap (λ (m : Main). if_same i (number_of k m) (PollFuture ∷ Finish ∷ [])) (sym main)
+poll_shows x s p i false k main = ap (λ (m : Main). if_same i (number_of k m) (PollFuture ∷ [])) (sym main)
 
 -- ---- The round, poll by poll
 
@@ -159,7 +151,8 @@ pub record RoundGoes {E : Type 0} (c : Component) (polled : ℕ) (a b : BesideRu
   pub idle : b.run.trap_on_idle ≡ a.run.trap_on_idle
   pub concurrent : b.store.concurrent ≡ a.store.concurrent
   pub on : (x : Setting) (w : Wide) (steps : ℕ) (own : Own) → Going c x w 0 false steps own a →
-      (n : ℕ) × ((found : Bool) × ((after : Own) × (Going c x w n found steps after b × (next_spawn n b.store.state.core ≡ next_spawn polled b.store.state.core))))
+      (n : ℕ) × ((found : Bool) × ((after : Own) × (Going c x w n found steps after b
+      × ((next_spawn n b.store.state.core ≡ next_spawn polled b.store.state.core) × Follows Made own after a.cells.list.items b.cells.list.items))))
 
 module _ {E : Type 0} (c : Component) where
   pub round_starts : (a : BesideRun E) → Able c a → (place a).turn ≡ turn.Take false → RoundGoes c 0 a a
@@ -170,7 +163,7 @@ module _ {E : Type 0} (c : Component) where
     main = refl;
     idle = refl;
     concurrent = refl;
-    on = λ x w steps own going. (0, (false, (own, (going, refl))));
+    on = λ x w steps own going. (0, (false, (own, (going, (refl, follows_same Made own a.cells.list.items a.cells.list.items (adds_none (λ k. []) 1 a.cells.list.items (λ k le. refl)))))));
   }
 
   pub round_skips : (polled i : ℕ) (a b : BesideRun E) → RoundGoes c polled a b → next_polled polled b.store.state.core ≡ Some i → is_spawn i b.store.state.core ≡ false → RoundGoes c i a b
@@ -182,7 +175,7 @@ module _ {E : Type 0} (c : Component) where
     idle = goes.idle;
     concurrent = goes.concurrent;
     on = λ x w steps own going.
-        let q = goes.on x w steps own going in (q.0, (q.1.0, (q.1.1.0, (q.1.1.1.0, q.1.1.1.1 ∙ other_next polled i b.store.state.core next other))));
+        let q = goes.on x w steps own going in (q.0, (q.1.0, (q.1.1.0, (q.1.1.1.0, (q.1.1.1.1.0 ∙ other_next polled i b.store.state.core next other, q.1.1.1.1.1)))));
   }
 
   pub round_polls : (polled i : ℕ) (found : Bool) (a b d : BesideRun E) → RoundGoes c polled a b → next_polled polled b.store.state.core ≡ Some i → is_spawn i b.store.state.core ≡ true →
@@ -196,11 +189,24 @@ module _ {E : Type 0} (c : Component) where
     concurrent = polls.concurrent ∙ goes.concurrent;
     on = λ x w steps own going.
         let q = goes.on x w steps own going in
-        let here : next_spawn q.0 b.store.state.core ≡ Some i = q.1.1.1.1 ∙ spawn_next polled i b.store.state.core next spawn in (
+        let here : next_spawn q.0 b.store.state.core ≡ Some i = q.1.1.1.1.0 ∙ spawn_next polled i b.store.state.core next spawn in
+        let s = state gated_says course c (place b) in
+        let adds = adds_as _ (λ k. calls_from x k (at_take s) (polled_label found i)) 1 b.cells.list.items d.cells.list.items (λ k le. poll_shows x s (place_of b.main.script) i found k refl) polls.calls in
+        let after = with_poll x (at_take s) (polled_label found i) q.1.1.0 in (
           i,
           (
             cond found true q.1.0,
-            (with_poll x (at_take (state gated_says course c (place b))) (polled_label found i) q.1.1.0, (polls_on c x w q.0 i q.1.0 found steps q.1.1.0 b d q.1.1.1.0 here polls, refl)),
+            (
+              after,
+              (
+                polls_on c x w q.0 i q.1.0 found steps q.1.1.0 b d q.1.1.1.0 here polls,
+                (
+                  refl,
+                  follows_then Made own q.1.1.0 after a.cells.list.items b.cells.list.items d.cells.list.items q.1.1.1.1.1
+                      (follows_poll x (at_take s) (polled_label found i) q.1.1.0 b.cells.list.items d.cells.list.items adds),
+                ),
+              ),
+            ),
           ),
         );
   }
@@ -226,7 +232,7 @@ module _ {E : Type 0} (c : Component) where
     cut = λ is. absurd (cc);
     on = λ x w steps own going.
         let q = goes.on x w steps own going in
-        (q.0, (q.1.0, (q.1.1.0, (q.1.1.1.0, (λ is. q.1.1.1.1 ∙ none_next polled b.store.state.core none, λ is. absurd (cc))))));
+        (q.0, (q.1.0, (q.1.1.0, (q.1.1.1.0, (λ is. q.1.1.1.1.0 ∙ none_next polled b.store.state.core none, (λ is. absurd (cc), q.1.1.1.1.1))))));
   }
 
   pub round_cut : (polled i : ℕ) (a b : BesideRun E) → RoundGoes c polled a b → next_polled polled b.store.state.core ≡ Some i → is_spawn i b.store.state.core ≡ true → b.left ≡ 0 → RoundMade c false a b
@@ -239,5 +245,5 @@ module _ {E : Type 0} (c : Component) where
     cut = λ is. left;
     on = λ x w steps own going.
         let q = goes.on x w steps own going in
-        (q.0, (q.1.0, (q.1.1.0, (q.1.1.1.0, (λ is. absurd (cc), λ is. (i, q.1.1.1.1 ∙ spawn_next polled i b.store.state.core next spawn))))));
+        (q.0, (q.1.0, (q.1.1.0, (q.1.1.1.0, (λ is. absurd (cc), (λ is. (i, q.1.1.1.1.0 ∙ spawn_next polled i b.store.state.core next spawn), q.1.1.1.1.1))))));
   }

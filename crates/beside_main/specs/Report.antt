@@ -1,16 +1,17 @@
 -- A run beside aborters from its beginning to its report.
 use Rattle.laws_beside.specs.Courses.{InRound, IsRun, Own}
-use Rattle.laws_beside.specs.Wide.{IsWideOutcome, Wide}
+use Rattle.laws_beside.specs.Wide.{IsWideOutcome, Made, Wide}
+use Rattle.beside_main.specs.Calls.{Follows}
 use Rattle.beside_main.specs.Cells.{AreLogsOf, KeepsCells}
 use Rattle.beside_main.specs.Course.{Able, Took, course, gated_says, place}
-use Rattle.beside_main.specs.Headline.{IsLogOf, IsWideRunOf}
+use Rattle.beside_main.specs.Headline.{IsLogOf, IsWideRunOf, count_spawns}
 use Rattle.beside_main.specs.declared.report.BesideReport.{BesideReport}
 use Rattle.beside_main.specs.declared.run.BesideRun.{BesideRun}
 use Rattle.beside_works.specs.declared.cells.SharedSpawn.{SharedSpawn}
 use Rattle.std.specs.Prelude.{Bool, Err, List, Ok, Result, Some, [], false, length, map, slice_get, true, ℕ, ◌+◌, ◌≡◌, ◌≤◌}
 use Rattle.task_abort.specs.declared.log.LogEntry.{LogEntry}
 use Rattle.task_loop.specs.HasRun.{setting, state}
-use Rattle.machine_data.specs.Core.{Core}
+use Rattle.machine_data.specs.Core.{Core, Main}
 use Rattle.machine_data.specs.declared.component.Component.{Component}
 use Rattle.machine_data.specs.declared.label.Label.{Label}
 use Rattle.machine_data.specs.declared.outcome.Outcome.{Outcome}
@@ -20,6 +21,7 @@ use Rattle.machine_rules.specs.Stalled.{Setting}
 use Rattle.machine_rules.specs.Stalled as rules
 use Rattle.task_run.specs.Headline.{machine_scenario}
 use Rattle.task_run.specs.Lower.{Reads}
+use Rattle.task_run.specs.Script.{part_of}
 use Rattle.task_run.specs.declared.scenario.Scenario.{Scenario}
 use Rattle.ops_turns.specs.Turn.{idle_line_of}
 
@@ -37,13 +39,15 @@ pub record Opens {E : Type 0} (x : Scenario) (steps : ℕ) (trap : Bool) (list :
   pub cells : b.cells.list.items ≡ list
   pub concurrent : b.store.concurrent ≡ true
 
--- These labels are a run beside aborters from w, with these calls. It has ended in this outcome, and its last state has this core.
-pub record HasEnded (x : Setting) (w : Wide) (steps : ℕ) (o : Outcome) (own : Own) (ls : List Label) (s : Core) : Type 0 where
+-- These labels are a run beside aborters from w, with these calls. It has ended in this outcome, and its last state has this core
+-- and this main.
+pub record HasEnded (x : Setting) (w : Wide) (steps : ℕ) (o : Outcome) (own : Own) (ls : List Label) (s : Core) (m : Main) : Type 0 where
   pub last : Wide
   pub run : IsRun x w ls last own
   pub ends : IsWideOutcome x last ls steps o
   pub few : length ls ≤ steps
   pub image : s ≡ last.state.core
+  pub main : m ≡ last.state.main
 
 -- The run has taken its steps, up to this outcome.
 pub record HasTaken {E : Type 0} (c : Component) (a b : BesideRun E) (o : Outcome) : Type 0 where
@@ -61,24 +65,29 @@ pub record GoesPast {E : Type 0} (c : Component) (trap : Bool) (o : Outcome) (a 
   pub concurrent : b.store.concurrent ≡ a.store.concurrent
   pub on : (x : Setting) (w : Wide) (steps : ℕ) (own : Own) → heard_with trap (setting gated_says course c (place a)) ≡ x →
       InRound x w 0 false steps a.left own a.trace (state gated_says course c (place a)) →
-      (after : Own) × HasEnded x w steps o after b.trace b.store.state.core
+      (after : Own) × (HasEnded x w steps o after b.trace b.store.state.core (part_of b.main.script)
+      × Follows Made own after a.cells.list.items b.cells.list.items)
 
--- a report of the run as it is
-pub record Reports {E : Type 0} (a : BesideRun E) (o : Outcome) (r : BesideReport) : Type 0 where
+-- a report of the run as it is, where so many calls on each spawn were early
+pub record Reports {E : Type 0} (a : BesideRun E) (o : Outcome) (early : List ℕ) (r : BesideReport) : Type 0 where
   pub trace : r.report.trace ≡ a.trace
   pub outcome : r.report.outcome ≡ o
   pub core : r.report.store.state.core ≡ a.store.state.core
   pub free : r.report.store.running ≡ false
   pub concurrent : r.report.store.concurrent ≡ a.store.concurrent
-  pub logs : AreLogsOf a.cells.list.items (map (λ l. l.items) r.logs.items)
+  pub logs : AreLogsOf a.cells.list.items early (map (λ l. l.items) r.logs.items)
+  pub each : length r.logs.items ≡ length a.main.script.spawns.items
 
--- The report is of a run of the scenario beside its aborters. Its store is concurrent, and no run rests on it.
+-- The report is of a run of the scenario beside its aborters. It has a log for each work that main has spawned. Its store is concurrent,
+-- and no run rests on it.
 pub record IsReportOf (x : Scenario) (steps : ℕ) (r : BesideReport) : Type 0 where
-  pub run : IsWideRunOf (machine_scenario x) steps r.report.trace r.report.outcome r.report.store.state.core
+  pub own : Own
+  pub run : IsWideRunOf (machine_scenario x) steps own r.report.trace r.report.outcome r.report.store.state.core
   pub free : r.report.store.running ≡ false
   pub concurrent : r.report.store.concurrent ≡ true
+  pub each : length r.logs.items ≡ count_spawns run.last.state.main
   pub logs : (k : ℕ) (log : List (LogEntry ℕ)) → slice_get (map (λ l. l.items) r.logs.items) k ≡ Some log →
-      IsLogOf (machine_scenario x) (k + 1) log
+      IsLogOf (machine_scenario x) own (k + 1) log
 
 -- so it is of the scenario that a text represents
 pub record IsReportOn (text : List ℕ) (steps : ℕ) (r : BesideReport) : Type 0 where

@@ -3,7 +3,7 @@ ghost use Rattle.std.specs.Prelude.{◌≡◌};
 
 use crate::cells::{finds_abort, finds_request, poll_handle};
 use crate::main_task::GatedMain;
-use crate::spawns::{Spawns, spawn_of};
+use crate::spawns::{Spawns, find_spawn, handle_at};
 use beside_works::{Gate, SharedSpawn};
 use machine_data::NoMemory;
 use task_group::NoHook;
@@ -16,17 +16,23 @@ use task_store::{ScriptedHost, SpawnHandle, Store};
 pub struct Cells {
     pub(crate) list: Vec<SharedSpawn>,
     pub(crate) spawns: Spawns,
-    // The spawn that was polled in the last step, from 0.
-    pub(crate) polled: Option<u32>,
+    // The place of the spawn that was polled in this step.
+    pub(crate) polled: Option<usize>,
 }
 
 impl AskedSpawns for Cells {
+    ghost use Rattle.beside_main.specs.Calls.{HasCalled};
     ghost use Rattle.beside_main.specs.Course.{KeepsAsked};
-    ghost use Rattle.beside_main.specs.Same.{same_cells};
+    ghost use Rattle.beside_main.specs.Same.{same_asked};
+    ghost use Rattle.task_abort.specs.declared.log.PhaseCall.TheVariants.{Abort, PollHandle};
 
     ghost keeps = { KeepsAsked };
 
-    ghost same = { λ b. same_cells b.list.items };
+    ghost same = { same_asked };
+
+    ghost aborted = { HasCalled Abort };
+
+    ghost awaited = { HasCalled PollHandle };
 
     fn aborts(&mut self, spawn: u32, running: bool) -> Result<bool, NoMemory> {
         finds_request(&mut self.list, spawn, running)
@@ -38,12 +44,19 @@ impl AskedSpawns for Cells {
 }
 
 impl<'a, G: Gate> Beside<GatedMain<'a, G>, (), ScriptedHost, NoHook> for Cells {
+    ghost use Rattle.beside_main.specs.Calls.{CallsMade, PollsCell};
     ghost use Rattle.beside_main.specs.Course.{KeepsAsked};
-    ghost use Rattle.beside_main.specs.Same.{same_cells};
+    ghost use Rattle.beside_main.specs.Same.{same_asked};
+    ghost use Rattle.laws_beside.specs.Shown.{calls_of_op};
+    ghost use Rattle.task_run.specs.Asked.{op_of};
 
     ghost keeps = { KeepsAsked };
 
-    ghost same = { λ b. same_cells b.list.items };
+    ghost same = { same_asked };
+
+    ghost polled = { λ i m a b. PollsCell i m.script a b };
+
+    ghost turned = { λ m a b. CallsMade (λ k. calls_of_op k (op_of m.script)) a b };
 
     fn polls(
         &mut self,
@@ -54,15 +67,16 @@ impl<'a, G: Gate> Beside<GatedMain<'a, G>, (), ScriptedHost, NoHook> for Cells {
     ) -> Result<Option<SpawnHandle>, NoMemory> {
         // only the contract speaks of `store`
         let _store = store;
-        let Some((spawn, work)) = spawn_of(&self.spawns, &main.script, number) else {
+        self.polled = None;
+        let Some(place) = find_spawn(&self.spawns, number) else {
             return Ok(None);
         };
-        self.polled = Some(spawn);
-        let Ok(found) = finds_abort(&mut self.list, spawn, running) else {
+        self.polled = Some(place);
+        let Ok(found) = finds_abort(&mut self.list, place, running) else {
             return Err(NoMemory);
         };
         if found {
-            return Ok(Some(work));
+            return Ok(handle_at(&main.script, place, number));
         }
         Ok(None)
     }

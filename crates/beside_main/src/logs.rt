@@ -1,6 +1,6 @@
 //! The logs of the works that were spawned.
-ghost use Rattle.std.specs.Prelude.{◌≡◌, IfOk, map, slice_get};
-ghost use Rattle.beside_main.specs.Cells.{AreEarly, AreLogsOf, AreMet};
+ghost use Rattle.std.specs.Prelude.{◌≡◌, IfOk, length, map, slice_get};
+ghost use Rattle.beside_main.specs.Cells.{AreCounts, AreEarly, AreLogsOf, AreMet};
 
 use crate::lists::add;
 use beside_works::SharedSpawn;
@@ -11,7 +11,8 @@ use task_run::ScriptMain;
 
 // How many calls the run has made on each cell by now.
 pub(crate) fn counts_of(alloc: Global, cells: &[SharedSpawn]) -> Result<Vec<usize>, NoMemory>
-    ensures { IfOk result (λ v. AreEarly cells.now v.items) }
+    ensures early { IfOk result (λ v. AreEarly cells.now v.items) }
+    ensures counts { IfOk result (λ v. AreCounts cells.now v.items) }
 {
     let mut counts = Vec::new(alloc);
     for cell in cells {
@@ -37,20 +38,31 @@ pub(crate) fn logs_of(
 ) -> Result<Vec<Vec<LogEntry<u32>>>, NoMemory>
     requires met { AreMet cells.now }
     requires early { AreEarly cells.now early.now }
-    ensures { IfOk result (λ v. AreLogsOf cells.now (map (λ l. l.items) v.items)) }
+    ensures logs { IfOk result (λ v. AreLogsOf cells.now early.now (map (λ l. l.items) v.items)) }
+    ensures each { IfOk result (λ v. length v.items ≡ length script.now.spawns.items) }
 {
     let mut logs = Vec::new(alloc);
     let mut spawn = 0u32;
     for cell in cells {
-        spawn = spawn.saturating_add(1);
+        let Some(next) = spawn.checked_add(1) else {
+            return Err(NoMemory);
+        };
+        spawn = next;
         let Some(_work) = script.spawned(spawn) else {
             return Ok(logs);
         };
         let Some(count) = count_at(early, logs.len()) else {
-            return Ok(logs);
+            unreachable!()
         };
         let log = cell.log(alloc, count)?;
         add(&mut logs, log)?;
     }
-    Ok(logs)
+    let Some(next) = spawn.checked_add(1) else {
+        return Err(NoMemory);
+    };
+    match script.spawned(next) {
+        // Each spawn has a cell, since each is of a line.
+        Some(_work) => Err(NoMemory),
+        None => Ok(logs),
+    }
 }

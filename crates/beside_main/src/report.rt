@@ -77,7 +77,7 @@ fn report_of<G: Gate>(
     requires concurrent { beside.store.concurrent ≡ true }
     requires met { AreMet beside.cells.list.items }
     requires early { AreEarly beside.cells.list.items early.items }
-    ensures { IfOk result (λ r. Reports beside.entry outcome r) }
+    ensures { IfOk result (λ r. Reports beside.entry outcome early.items r) }
 {
     let logs = logs_of(
         alloc,
@@ -259,9 +259,9 @@ fn run<'a, R: Threads + Wait + Sync, G: Gate + Sync>(
 
 /// Runs the scenario of a text of at most 1,048,576 bytes for at most `steps` steps, 1 to 1,000,000, with a thread for each of its
 /// aborters. The report's labels are those of a run of the component machine beside aborters, from the scenario's opening state,
-/// its outcome is what that run has resulted in, and its store has the run's last state as its image. Each log that it answers is
-/// legal, and has as many aborts of each aborter as its line names the spawn. A text that is no scenario is refused at its first bad
-/// line, before a thread starts.
+/// its outcome is what that run has resulted in, and its store has the run's last state as its image. There is a log for each work
+/// that main has spawned. It is legal, and has the calls of the run that the labels show, and the aborts of its aborters, each once. A
+/// text that is no scenario is refused at its first bad line, before a thread starts.
 pub fn run_beside<R: Threads + Wait + Sync, G: Gate + Sync>(
     rt: &R,
     alloc: Global,

@@ -1,5 +1,7 @@
 //! The spawns that main has made, by their numbers.
-ghost use Rattle.std.specs.Prelude.{◌≡◌, IfSome};
+ghost use Rattle.std.specs.Prelude.{◌≡◌, IfSome, OnOk, length, ℕ};
+ghost use Rattle.beside_main.specs.Calls.{AreNoted, GrowsBy, IsPlaceOf, IsRising};
+ghost use Rattle.task_run.specs.Script.{place_of};
 ghost use Rattle.task_run.specs.Spawns.{KnowsSpawns};
 ghost use Rattle.task_store.specs.Spawned.{IsSpawnedIn};
 ghost use Rattle.core_primitives.specs.StateView.{StateView};
@@ -17,8 +19,14 @@ pub struct Spawns {
 }
 
 // Keeps the number of the spawn that main has made, if it has made one more.
-pub(crate) fn note_spawn(spawns: &mut Spawns, script: &ScriptMain<'_>) -> Result<(), NoMemory> {
-    let next = spawns.count.saturating_add(1);
+pub(crate) fn note_spawn(spawns: &mut Spawns, script: &ScriptMain<'_>) -> Result<(), NoMemory>
+    requires count { spawns.old.count ≡ length spawns.old.numbers.items }
+    requires grows { GrowsBy spawns.old.numbers.items (place_of script.now).spawns }
+    ensures { OnOk result (AreNoted script.now spawns.new) }
+{
+    let Some(next) = spawns.count.checked_add(1) else {
+        return Err(NoMemory);
+    };
     let Some(work) = script.spawned(next) else {
         return Ok(());
     };
@@ -27,34 +35,28 @@ pub(crate) fn note_spawn(spawns: &mut Spawns, script: &ScriptMain<'_>) -> Result
     Ok(())
 }
 
-// The place of the first number that isn't below this one.
-fn place_of(spawns: &Spawns, number: u64) -> u32 {
-    let mut low = 0u32;
-    let mut high = spawns.count;
-    'halves: while low < high {
-        let middle = low + (high - low) / 2;
-        match spawns.numbers.get(middle as usize) {
-            Some(here) if *here < number => low = middle + 1,
-            _ => high = middle,
-        }
+// The place of the spawn whose work has this number.
+pub(crate) fn find_spawn(spawns: &Spawns, number: u64) -> Option<usize>
+    ensures { (last : ℕ) → IsRising 0 spawns.now.numbers.items last → IsPlaceOf number result spawns.now.numbers.items }
+{
+    match spawns.numbers.as_slice().binary_search(&number) {
+        Ok(place) => Some(place),
+        Err(_) => None,
     }
-    low
 }
 
-// Which spawn the work with this number is, from 0, and its handle.
-pub(crate) fn spawn_of(
-    spawns: &Spawns,
-    script: &ScriptMain<'_>,
-    number: u64,
-) -> Option<(u32, SpawnHandle)>
-    ensures { IfSome result (λ r. ((s : StateView) → KnowsSpawns script.now s → IsSpawnedIn r.1 s) × (r.1.number ≡ number)) }
+// The handle of the spawn at this place, whose work has this number.
+pub(crate) fn handle_at(script: &ScriptMain<'_>, place: usize, number: u64) -> Option<SpawnHandle>
+    ensures { IfSome result (λ h. ((s : StateView) → KnowsSpawns script.now s → IsSpawnedIn h s) × (h.number ≡ number)) }
 {
-    let place = place_of(spawns, number);
+    let Ok(place) = u32::try_from(place) else {
+        return None;
+    };
     let Some(work) = script.spawned(place.saturating_add(1)) else {
         return None;
     };
     if work.number() == number {
-        return Some((place, work));
+        return Some(work);
     }
     None
 }

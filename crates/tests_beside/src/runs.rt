@@ -1,5 +1,5 @@
 use beside_main::{BesideReport, OpenGate, run_beside, tool_beside};
-use machine_data::Phase;
+use machine_data::{Label, LoopLabel, Phase};
 use std::alloc::Global;
 use std::process::Abort;
 use std::sync::Wait;
@@ -75,6 +75,8 @@ fn an_aborter_ends_a_spawn_that_never_ends(rt: HostRuntime) {
 #[test]
 fn without_an_aborter_the_run_is_idle(rt: HostRuntime) {
     let report = report_of(&rt, rt.alloc(), NO_ABORTER);
+    let last = report.report.trace.last();
+    assert!(rt; matches!(last, Some(Label::Loop(LoopLabel::FuturePends(1)))));
     match print_report(rt.alloc(), &report.report) {
         Ok(text) => assert!(rt;
             text.as_slice()

@@ -1,25 +1,45 @@
-use Rattle.std.proofs.Common.{◌≡◌, ap, arith, length, refl, sym, ◌∙◌}
+use Rattle.std.proofs.Common.{List, ap, arith, length, refl, subst, sym, ◌∙◌, ◌≡◌, ◌≤◌}
 use Rattle.std.proofs.lemmas.Option.{slice_get_read}
-use Rattle.std.specs.Prelude.{Some, slice_get, ◌-◌}
+use Rattle.std.specs.Prelude.{Some, slice_get, ◌-◌, ℕ, ◌+◌}
+use Rattle.beside_main.proofs.CallLemmas.{adds_spawn, call_added, spawn_none, spawn_past, zero_of}
 use Rattle.beside_main.proofs.CellLemmas.{one_cell}
 use Rattle.beside_main.specs.Same.{same_cells}
+use Rattle.task_abort.specs.declared.log.PhaseCall.TheVariants.{PollHandle}
+use Rattle.std.specs.Prelude.{[], ◌∷◌}
 use Rattle.beside_main.proofs.cells.poll_handle.Goals as goal
 
-pub returns-in_err-_ready : goal.returns-in_err-_ready
-returns-in_err-_ready c =
+pub returns-in_default-clause-cells : goal.returns-in_default-clause-cells
+returns-in_default-clause-cells c = same_cells c.args.cells.now.items
+
+pub returns-in_default-clause-calls : goal.returns-in_default-clause-calls
+returns-in_default-clause-calls c = spawn_none c.args.spawn c.args.cells.now.items (PollHandle ∷ []) (zero_of c.args.spawn c.in_default.ensures)
+
+pub returns-in_default-get_mut-clause-cells : goal.returns-in_default-get_mut-clause-cells
+returns-in_default-get_mut-clause-cells c = same_cells c.args.cells.now.items
+
+pub returns-in_default-get_mut-clause-calls : goal.returns-in_default-get_mut-clause-calls
+returns-in_default-get_mut-clause-calls c = spawn_past c.args.spawn c.in-Some.place c.args.cells.now.items (PollHandle ∷ []) (let less = c.in-Some.ensures in omega (arith, less.0, less.1)) (let past = c.in_default-get_mut.ensures in omega (arith, c.args.cells.now.ok.0, past))
+
+pub returns-in_err-_ready-clause-cells : goal.returns-in_err-_ready-clause-cells
+returns-in_err-_ready-clause-cells c =
     let ds = c.args.cells.now.items in
-    let i = c.saturating_sub.result in
-    let s = c.in-Some.cell.now in
-    let there : slice_get ds i ≡ Some s = slice_get_read ds (length ds) i s refl (omega (arith, c.args.cells.now.ok.0, c.in-Some.ensures.variant.0 refl)) c.in-Some.ensures.value in
+    let i = c.in-Some.place in
+    let s = c.in-Some-get_mut.cell.now in
+    let there : slice_get ds i ≡ Some s = slice_get_read ds (length ds) i s refl (omega (arith, c.args.cells.now.ok.0, c.in-Some-get_mut.ensures.variant.0 refl)) c.in-Some-get_mut.ensures.value in
     one_cell ds i s c.poll_handle.new.self there (record { cell = c.poll_handle.ensures.cell; split = c.poll_handle.ensures.rest.1.0; met = c.poll_handle.ensures.rest.1.1; round = c.poll_handle.ensures.round })
 
-pub returns : goal.returns
-returns c =
+pub returns-clause-cells : goal.returns-clause-cells
+returns-clause-cells c =
     let ds = c.args.cells.now.items in
-    let i = c.saturating_sub.result in
-    let s = c.in-Some.cell.now in
-    let there : slice_get ds i ≡ Some s = slice_get_read ds (length ds) i s refl (omega (arith, c.args.cells.now.ok.0, c.in-Some.ensures.variant.0 refl)) c.in-Some.ensures.value in
+    let i = c.in-Some.place in
+    let s = c.in-Some-get_mut.cell.now in
+    let there : slice_get ds i ≡ Some s = slice_get_read ds (length ds) i s refl (omega (arith, c.args.cells.now.ok.0, c.in-Some-get_mut.ensures.variant.0 refl)) c.in-Some-get_mut.ensures.value in
     one_cell ds i s c.poll_handle.new.self there (record { cell = c.poll_handle.ensures.cell; split = c.poll_handle.ensures.rest.1.0; met = c.poll_handle.ensures.rest.1.1; round = c.poll_handle.ensures.round })
 
-pub returns-in_default : goal.returns-in_default
-returns-in_default c = same_cells c.args.cells.now.items
+pub returns-clause-calls : goal.returns-clause-calls
+returns-clause-calls c =
+    let ds = c.args.cells.now.items in
+    let i = c.in-Some.place in
+    let s = c.in-Some-get_mut.cell.now in
+    let there : slice_get ds i ≡ Some s = slice_get_read ds (length ds) i s refl (omega (arith, c.args.cells.now.ok.0, c.in-Some-get_mut.ensures.variant.0 refl)) c.in-Some-get_mut.ensures.value in
+    adds_spawn c.args.spawn i ds s c.poll_handle.new.self (PollHandle ∷ []) (let less = c.in-Some.ensures in omega (arith, less.0, less.1)) there (call_added PollHandle s c.poll_handle.new.self c.in_ok-_ready.ensures.call.0 c.in_ok-_ready.ensures.call.1)

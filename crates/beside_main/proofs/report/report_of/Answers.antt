@@ -21,5 +21,7 @@ returns g c = record {
   core = rw (c.share_notices.ensures.same, c.end.ensures) refl;
   free = rw (c.share_notices.ensures.same, c.end.ensures) refl;
   concurrent = rw (c.share_notices.ensures.same, c.end.ensures) refl;
-  logs = subst (λ (cs : List SharedSpawn). AreLogsOf cs (map (λ l. l.items) c.in_ok-logs.logs.items)) c.as_slice.ensures.value c.in_ok-logs.ensures;
+  logs = subst (λ (cs : List SharedSpawn). AreLogsOf cs c.args.early.items (map (λ l. l.items) c.in_ok-logs.logs.items)) c.as_slice.ensures.value
+      (subst (λ (ns : List ℕ). AreLogsOf c.as_slice.result.now ns (map (λ l. l.items) c.in_ok-logs.logs.items)) c.as_slice-2.ensures.value c.in_ok-logs.ensures.logs);
+  each = c.in_ok-logs.ensures.each;
 }

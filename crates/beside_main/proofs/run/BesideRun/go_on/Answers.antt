@@ -1,7 +1,7 @@
 use Rattle.std.proofs.Common.{ap, arith, refl, sym, ◌∙◌}
-use Rattle.beside_main.proofs.CourseLemmas.{goes_on_by, goes_still, plain_took, took_behind, took_result}
+use Rattle.beside_main.proofs.CourseLemmas.{goes_on_by, goes_still, took_behind, took_result}
+use Rattle.beside_main.proofs.MetLemmas.{rested_took}
 use Rattle.beside_main.proofs.run.BesideRun.go_on.Goals as goal
-use Rattle.beside_main.specs.Same.{same_cells}
 
 pub steps-init : goal.steps-init
 steps-init g c = goes_still c.args.component.now c.args.self.now c.requires.able
@@ -23,7 +23,8 @@ drive-requires g c = record { may = c.steps.invariant.able.may }
 
 pub returns-clause-took : goal.returns-clause-took
 returns-clause-took g c =
+    let k = c.args.component.now in
     let a = c.steps.self in
     let b = record a { run = c.drive.new.self; store = c.drive.new.store; main = c.drive.new.main; trace = c.drive.new.trace } in
-    took_result c.args.component.now c.args.self.now a b c.drive.result c.steps.invariant
-    (plain_took c.args.component.now 0 c.drive.result a.run.yield_budget c.drive.new.self.yield_budget a b c.steps.invariant.able (omega arith) (omega arith) (same_cells a.cells.list.items) c.drive.ensures.keeps c.drive.ensures.drives)
+    took_result k c.args.self.now a b c.drive.result c.steps.invariant
+    (rested_took k c.drive.result a.run.yield_budget c.drive.new.self.yield_budget a b c.steps.invariant.able refl refl c.drive.ensures.keeps c.drive.ensures.drives)

@@ -1,8 +1,0 @@
-use Rattle.std.proofs.Common.{◌-◌, ◌≤◌}
-use Rattle.beside_main.proofs.spawns.place_of.Given as goal
-
-abbrev pub invariant-halves : goal.invariant-halves
-invariant-halves l = l.low ≤ l.high
-
-abbrev pub decreases-halves : goal.decreases-halves
-decreases-halves l = l.high - l.low
