@@ -1,0 +1,7 @@
+use Rattle.choice_offers.proofs.held.HeldOrder.put_in_order.Goals as goal
+use Rattle.choice_offers.specs.Times.{time_at}
+use Rattle.std.proofs.Common.{rules}
+use Rattle.std.proofs.lemmas.List.Sorted.{IsNonDecreasingBy-from_sort_by_key}
+
+pub returns-clause-order : goal.returns-clause-order
+returns-clause-order c = IsNonDecreasingBy-from_sort_by_key (λ t. time_at c.args.self.now t.number) _ c.in_ok-sort_by_key.ensures.sorted (λ a r q k. search rules)

@@ -1,0 +1,6 @@
+use Rattle.choice_offers.proofs.offered.sort_threads.Goals as goal
+use Rattle.std.proofs.Common.{rules}
+use Rattle.std.proofs.lemmas.List.Sorted.{IsNonDecreasingBy-from_sort_by_key}
+
+pub returns-clause-order : goal.returns-clause-order
+returns-clause-order c = IsNonDecreasingBy-from_sort_by_key (λ t. t.number) _ c.in_ok-sort_by_key.ensures.sorted (λ a r q k. search rules)

@@ -1,0 +1,4 @@
+mod HeldLists
+mod MemberLists
+mod WaitingLists
+mod WalkedLists

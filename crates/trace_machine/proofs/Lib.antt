@@ -1,0 +1,5 @@
+pub mod MachineLemmas
+pub mod OpenLemmas
+pub mod SpotLemmas
+pub mod StepLemmas
+pub mod WantLemmas
