@@ -250,7 +250,8 @@ pub fn step_run<W: Primitives>(
 
 /// Has the running thread, which has this number, do its op, which calls a host: the step, whose label is still to be
 /// added, and the work that was made are answered. The host is polled first, and has answered so if it is open. If it is out of
-/// memory, it is said of the state that the same groups are tracked. It is a function of its own, so that what it answers is there only where a host is called.
+/// memory, it is said of the state that the same groups are tracked. It is a function of its own, so that what it answers is there
+/// only where a host is called.
 #[inline(never)]
 pub fn step_call<W: Primitives>(
     component: &Component,

@@ -306,7 +306,8 @@ impl RunConcurrent {
     ///
     /// If it is out of memory, the labels that were added are those of such a run to a state that is lost. The notices of these labels
     /// were told, and main did the steps that they show; at main's turn it may have done and told more. Then the store is trapped,
-    /// and its groups are finished: those of that state, unless it is main's turn. Whether a run is active on the store, whether it is concurrent and its number stay.
+    /// and its groups are finished: those of that state, unless it is main's turn. Whether a run is active on the store, whether it is
+    /// concurrent and its number stay.
     ///
     /// Where the hook that is told of the groups answers an error, the outcome is trap 22, which adds no label of its own and
     /// comes by nothing else: the store is trapped, its groups are finished, and the run is over. The labels that were added are

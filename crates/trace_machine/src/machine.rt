@@ -225,7 +225,8 @@ impl<'a> Machine<'a> {
     }
 
     /// Makes the next step as the choice says: `Did` with its label. `Over` if no label is lawful: the run is over, or nothing can go on.
-    /// `Refused` if neither is so and the choice doesn't fit what is offered; then all is as before. If it is out of memory, nothing is said of the machine.
+    /// `Refused` if neither is so and the choice doesn't fit what is offered; then all is as before. If it is out of memory, nothing is
+    /// said of the machine.
     pub fn go(&mut self, choice: &Choice) -> Result<Went, NoMemory>
         requires kept { IsKept self.old }
         requires few { HasNumbers self.old }
