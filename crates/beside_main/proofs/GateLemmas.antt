@@ -3,7 +3,7 @@ use Rattle.beside_main.specs.Course.{gated_says}
 use Rattle.beside_main.specs.declared.main_task.GatedMain.{GatedMain}
 use Rattle.ops_state.specs.declared.error.TaskError.{TaskError}
 use Rattle.std.proofs.Common.{ap, inl, inr, subst, sym}
-use Rattle.std.specs.Prelude.{Err, IfOk, None, Ok, Option, Result, Some, ℕ, ◌≡◌}
+use Rattle.std.specs.Prelude.{Err, IfOk, None, Ok, OnErr, Option, Result, Some, ℕ, ◌≡◌}
 use Rattle.task_loop.specs.Beside.{HasFound}
 use Rattle.task_loop.specs.HasRun.{HasStepResult, MayStep}
 use Rattle.task_loop.specs.Hooked.{FailsMain}
@@ -74,3 +74,7 @@ pub founds : {E : Type 0} (r : Result (Option ℕ) NoMemory) (m : GatedMain E) (
     IfOk r (λ found. HasFound gated_says found m (record m { script = n }) s)
 founds (Ok found) m n s has = gate_found found m n s has
 founds (Err e) m n s has = tt
+
+pub lacks : {E : Type 0} (r : Result (Option ℕ) NoMemory) (m : GatedMain E) (n : ScriptMain) → OnErr r (n ≡ m.script) → OnErr r (record m { script = n } ≡ m)
+lacks (Ok found) m n same = tt
+lacks (Err e) m n same = ap (λ (q : ScriptMain). record m { script = q }) same

@@ -154,16 +154,12 @@ module _ {E : Type 0} (c : Component) where
       same = same_setting c (place a) (place b) keeps
 
   -- a step was taken beside the aborters
-  pub beside_took : (r : Result Outcome NoMemory) (yield_budget yield_budget' : YieldBudget) (a b : BesideRun E) → Able c a → b.left + 1 ≡ a.left → KeepsCells a.cells.list.items b.cells.list.items →
-      Keeps gated_says (place a) (place b) → StepsBeside gated_says course c false r yield_budget (place a) (place b) yield_budget' → StepCalls c 1 a b → HasNoted b → IfOk r (λ o. Took c o a b)
-  beside_took (Err e) y z a b able less cells keeps steps calls noted = tt
-  beside_took (Ok outcome.OutOfSteps) y z a b able less cells keeps (inl met) calls noted = met_took met.0 a b able less cells keeps met.1.0 calls noted
-  beside_took (Ok outcome.OutOfSteps) y z a b able less cells keeps (inr ran) calls noted = plain_took c 1 (Ok outcome.OutOfSteps) y z a b able (omega arith) less cells keeps ran calls noted
-  beside_took (Ok (outcome.Done n)) y z a b able less cells keeps steps calls noted = plain_took c 1 (Ok (outcome.Done n)) y z a b able (omega arith) less cells keeps steps calls noted
-  beside_took (Ok (outcome.Trap q)) y z a b able less cells keeps steps calls noted = plain_took c 1 (Ok (outcome.Trap q)) y z a b able (omega arith) less cells keeps steps calls noted
-  beside_took (Ok (outcome.HostFailed n)) y z a b able less cells keeps steps calls noted = plain_took c 1 (Ok (outcome.HostFailed n)) y z a b able (omega arith) less cells keeps steps calls noted
-  beside_took (Ok (outcome.Deadlock q)) y z a b able less cells keeps steps calls noted = plain_took c 1 (Ok (outcome.Deadlock q)) y z a b able (omega arith) less cells keeps steps calls noted
-  beside_took (Ok outcome.Idle) y z a b able less cells keeps steps calls noted = plain_took c 1 (Ok outcome.Idle) y z a b able (omega arith) less cells keeps steps calls noted
+  pub beside_took : (was_asked : Bool → Type 0) (r : Result Outcome NoMemory) (yield_budget yield_budget' : YieldBudget) (a b : BesideRun E) → Able c a → b.left + 1 ≡ a.left → KeepsCells a.cells.list.items b.cells.list.items →
+      Keeps gated_says (place a) (place b) → StepsBeside gated_says course c was_asked false r yield_budget (place a) (place b) yield_budget' → StepCalls c 1 a b → HasNoted b → IfOk r (λ o. Took c o a b)
+  beside_took was_asked (Err e) y z a b able less cells keeps steps calls noted = tt
+  beside_took was_asked (Ok o) y z a b able less cells keeps (true, (asked, (is, (l, met)))) calls noted =
+      subst (λ (p : Outcome). Took c p a b) (sym is) (met_took l a b able less cells keeps met.0 calls noted)
+  beside_took was_asked (Ok o) y z a b able less cells keeps (false, (asked, ran)) calls noted = plain_took c 1 (Ok o) y z a b able (omega arith) less cells keeps ran calls noted
 
 -- ---- The spawns after such a step
 
@@ -183,14 +179,9 @@ module _ {E : Type 0} (c : Component) (a b : Place E) where
   drove : (o : Outcome) (y z : YieldBudget) → HasDriven gated_says course c 1 o y a b z → MayStep x (state gated_says course c a) (state gated_says course c b)
   drove o y z driven = let has = driven.gone.has in ran_steps x (state gated_says course c a) has.ran.added (state gated_says course c b) has.few has.ran.run
 
-  stepped : (o : Outcome) (y z : YieldBudget) → StepsBeside gated_says course c false (Ok o) y a b z → MayStep x (state gated_says course c a) (state gated_says course c b)
-  stepped outcome.OutOfSteps y z (inl met) = inr (met.0, met_beside x (state gated_says course c a) met.0 (state gated_says course c b) met.1.0.step)
-  stepped outcome.OutOfSteps y z (inr ran) = drove outcome.OutOfSteps y z ran
-  stepped (outcome.Done n) y z steps = drove (outcome.Done n) y z steps
-  stepped (outcome.Trap q) y z steps = drove (outcome.Trap q) y z steps
-  stepped (outcome.HostFailed n) y z steps = drove (outcome.HostFailed n) y z steps
-  stepped (outcome.Deadlock q) y z steps = drove (outcome.Deadlock q) y z steps
-  stepped outcome.Idle y z steps = drove outcome.Idle y z steps
+  stepped : (was_asked : Bool → Type 0) (o : Outcome) (y z : YieldBudget) → StepsBeside gated_says course c was_asked false (Ok o) y a b z → MayStep x (state gated_says course c a) (state gated_says course c b)
+  stepped was_asked o y z (true, (asked, (is, (l, met)))) = inr (l, met_beside x (state gated_says course c a) l (state gated_says course c b) met.0.step)
+  stepped was_asked o y z (false, (asked, ran)) = drove o y z ran
 
   spawned : MayStep x (state gated_says course c a) (state gated_says course c b) → Spawns a.store.state.core (part_of a.main.script) b.store.state.core (part_of b.main.script)
   spawned (inl same) = inl (ap (λ (u : State). spawned_by u.main) same)
@@ -200,12 +191,12 @@ module _ {E : Type 0} (c : Component) (a b : Place E) where
   made (inl same) = let works = ap (λ (u : State). u.core.made.works) same in omega (arith, works)
   made (inr step) = beside_made x (state gated_says course c a) step.0 (state gated_says course c b) step.1
 
-  pub step_grows : (o : Outcome) (y z : YieldBudget) → StepsBeside gated_says course c false (Ok o) y a b z → GrowsBy (place_of a.main.script).spawns (place_of b.main.script).spawns
-  step_grows o y z steps = grows a.store.state.core (part_of a.main.script) b.store.state.core (part_of b.main.script) (spawned (stepped o y z steps))
+  pub step_grows : (was_asked : Bool → Type 0) (o : Outcome) (y z : YieldBudget) → StepsBeside gated_says course c was_asked false (Ok o) y a b z → GrowsBy (place_of a.main.script).spawns (place_of b.main.script).spawns
+  step_grows was_asked o y z steps = grows a.store.state.core (part_of a.main.script) b.store.state.core (part_of b.main.script) (spawned (stepped was_asked o y z steps))
 
-  pub step_rises : (o : Outcome) (y z : YieldBudget) → StepsBeside gated_says course c false (Ok o) y a b z → IsRising 0 (place_of a.main.script).spawns a.store.state.core.made.works →
+  pub step_rises : (was_asked : Bool → Type 0) (o : Outcome) (y z : YieldBudget) → StepsBeside gated_says course c was_asked false (Ok o) y a b z → IsRising 0 (place_of a.main.script).spawns a.store.state.core.made.works →
       IsRising 0 (place_of b.main.script).spawns b.store.state.core.made.works
-  step_rises o y z steps rising = rises a.store.state.core (part_of a.main.script) b.store.state.core (part_of b.main.script) (spawned (stepped o y z steps)) (made (stepped o y z steps)) rising
+  step_rises was_asked o y z steps rising = rises a.store.state.core (part_of a.main.script) b.store.state.core (part_of b.main.script) (spawned (stepped was_asked o y z steps)) (made (stepped was_asked o y z steps)) rising
 
 -- ---- No step
 

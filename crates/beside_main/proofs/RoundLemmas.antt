@@ -96,9 +96,9 @@ module _ {E : Type 0} (c : Component) where
 
   -- it pends, or another thread's abort was found
   pub polled_last : (polled : ℕ) (a b : BesideRun E) (mid : Cells) → (able : Able c a) → b.left + 1 ≡ a.left → b.main ≡ a.main → KeepsCells a.cells.list.items b.cells.list.items →
-      Keeps gated_says (place a) (place b) → HasPolledLast gated_says course c polled (place a) (place b) → HasAskedNext Polls (next_polled polled a.store.state.core) a.main a.cells mid →
+      Keeps gated_says (place a) (place b) → HasPolledLast gated_says course c (HasAskedNext Polls a.store.state.core (next_polled polled a.store.state.core) a.main a.cells mid) polled (place a) (place b) →
       mid.spawns ≡ a.cells.spawns → b.cells.spawns ≡ mid.spawns → NotesOver (ends_work (last_or None b.trace)) mid b.cells → PolledNext c polled a b
-  polled_last polled a b mid able less main cells keeps polls asked same kept over = (
+  polled_last polled a b mid able less main cells keeps polls same kept over = (
     polls.number,
     (
       polls.found,
@@ -124,7 +124,7 @@ module _ {E : Type 0} (c : Component) where
           turn = polls.turn;
           core = polls.core;
           running = polls.running;
-          calls = last_calls c a able polled polls.number polls.found b mid polls.next asked polls.trace over;
+          calls = last_calls c a able polled polls.number polls.found b mid polls.next polls.asked polls.trace over;
         },
       ),
     ),

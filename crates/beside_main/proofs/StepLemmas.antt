@@ -36,6 +36,7 @@ use Rattle.task_abort.specs.declared.log.PhaseCall.{PhaseCall}
 use Rattle.task_abort.specs.declared.log.PhaseCall.TheVariants.{PollFuture}
 use Rattle.task_loop.specs.Beside.{HasAskedAt, HasAskedNext}
 use Rattle.task_loop.specs.HasRun.{setting, state}
+use Rattle.ops_turns.specs.StepResult.{turn_of}
 use Rattle.task_run.specs.Asked.{op_of}
 use Rattle.task_run.specs.Script.{place_of}
 use Rattle.task_run.specs.declared.script.ScriptMain.{ScriptMain}
@@ -64,11 +65,15 @@ no_rest_polls y s n at = rw at refl
 no_call : (o : Option ℕ) (over : Bool) (k : ℕ) → o ≡ None → on_last o (finish_if over) k ≡ []
 no_call o over k none = ap (λ (p : Option ℕ). on_last p (finish_if over) k) none
 
-abbrev pub Polls : {E : Type 0} → ℕ → GatedMain E → (a b : Cells) → Type 0
-Polls i m a b = PollsCell i m.script a b
+abbrev pub Polls : {E : Type 0} → ℕ → (running found : Bool) → GatedMain E → (a b : Cells) → Type 0
+Polls i running found m a b = PollsCell i m.script a b
 
 abbrev pub Turns : {E : Type 0} → GatedMain E → (a b : Cells) → Type 0
 Turns m a b = CallsMade (λ k. calls_of_op k (op_of m.script)) a b
+
+-- what was asked in a step of this run
+abbrev pub WasAsked : {E : Type 0} → BesideRun E → Cells → Bool → Type 0
+WasAsked a mid = HasAskedAt Polls Turns (turn_of a.run.last) a.store.state.core a.main a.cells mid
 
 -- main's turn
 request_calls : (x : Setting) (s : State) (p : MainPlace) (o : Option MainOpDef) (l : Label) (t : State) (k : ℕ) → FindsRequest s p o l t → calls_from x k s l ≡ calls_of_op k o
@@ -152,22 +157,22 @@ module _ {E : Type 0} (c : Component) (a : BesideRun E) (able : Able c a) where
   polls_here n i mid next polls =
       let above = next_above n i s.core next in polls (omega (arith, above)) able.noted.noted s.core.made.works able.noted.rising
 
-  next_open : (n : ℕ) (o : Option ℕ) (mid : Cells) → next_polled n s.core ≡ o → HasAskedNext Polls o a.main a.cells mid → IsOpenLast mid.polled mid.list.items
-  next_open n None mid next asked = subst (λ (d : Cells). IsOpenLast d.polled d.list.items) (sym asked) (none_open a.cells.polled able.noted.none)
+  next_open : (n : ℕ) (o : Option ℕ) (mid : Cells) (found : Bool) → next_polled n s.core ≡ o → HasAskedNext Polls s.core o a.main a.cells mid found → IsOpenLast mid.polled mid.list.items
+  next_open n None mid found next asked = subst (λ (d : Cells). IsOpenLast d.polled d.list.items) (sym asked) (none_open a.cells.polled able.noted.none)
     where
       none_open : (o : Option ℕ) → o ≡ None → IsOpenLast o a.cells.list.items
       none_open o none = subst (λ (q : Option ℕ). IsOpenLast q a.cells.list.items) (sym none) tt
-  next_open n (Some i) mid next asked = (polls_here n i mid next asked).still
+  next_open n (Some i) mid found next asked = (polls_here n i mid next asked).still
 
   same_open : (mid : Cells) → mid.polled ≡ a.cells.polled → IsOpenLast mid.polled mid.list.items
   same_open mid same = subst (λ (q : Option ℕ). IsOpenLast q mid.list.items) (sym (same ∙ able.noted.none)) tt
 
-  pub asked_open : (u : Turn) (mid : Cells) → HasAskedAt Polls Turns u s.core a.main a.cells mid → IsOpenLast mid.polled mid.list.items
-  asked_open turn.Main mid asked = same_open mid asked.1
-  asked_open (turn.Futures n) mid asked = next_open n (next_polled n s.core) mid refl asked
-  asked_open (turn.Take b) mid asked = same_open mid (ap (λ (d : Cells). d.polled) asked)
-  asked_open (turn.Run n) mid asked = same_open mid (ap (λ (d : Cells). d.polled) asked)
-  asked_open turn.Over mid asked = same_open mid (ap (λ (d : Cells). d.polled) asked)
+  pub asked_open : (u : Turn) (mid : Cells) (found : Bool) → HasAskedAt Polls Turns u s.core a.main a.cells mid found → IsOpenLast mid.polled mid.list.items
+  asked_open turn.Main mid found asked = same_open mid asked.1
+  asked_open (turn.Futures n) mid found asked = next_open n (next_polled n s.core) mid found refl asked
+  asked_open (turn.Take b) mid found asked = same_open mid (ap (λ (d : Cells). d.polled) asked)
+  asked_open (turn.Run n) mid found asked = same_open mid (ap (λ (d : Cells). d.polled) asked)
+  asked_open turn.Over mid found asked = same_open mid (ap (λ (d : Cells). d.polled) asked)
 
   -- ---- The calls of a step
 
@@ -202,29 +207,29 @@ module _ {E : Type 0} (c : Component) (a : BesideRun E) (able : Able c a) where
     made_elsewhere : (u : Turn) (l : Label) (t : State) → s.turn ≡ u → is_calling u ≡ false → mid ≡ a.cells → StepBeside x s l t → Made l
     made_elsewhere u l t at other same step = adds_as (λ k. []) (λ k. calls_from x k s l) 1 a.cells.list.items news (λ k le. sym (others_none x s l t k u at other step)) (kept same)
 
-    made_next : (n : ℕ) (o : Option ℕ) (l : Label) (t : State) → s.turn ≡ turn.Futures n → next_polled n s.core ≡ o → HasAskedNext Polls o a.main a.cells mid → ls ≡ a.trace ++ l ∷ [] → StepBeside x s l t → Made l
-    made_next n None l t at next asked is step = absurd (polled_none x s n l t at next step)
-    made_next n (Some i) l t at next asked is step = made_in_polls n i l t at next (polls_here n i mid next asked) is step
+    made_next : (n : ℕ) (o : Option ℕ) (found : Bool) (l : Label) (t : State) → s.turn ≡ turn.Futures n → next_polled n s.core ≡ o → HasAskedNext Polls s.core o a.main a.cells mid found → ls ≡ a.trace ++ l ∷ [] → StepBeside x s l t → Made l
+    made_next n None found l t at next asked is step = absurd (polled_none x s n l t at next step)
+    made_next n (Some i) found l t at next asked is step = made_in_polls n i l t at next (polls_here n i mid next asked) is step
 
-    made_at : (u : Turn) → s.turn ≡ u → HasAskedAt Polls Turns u s.core a.main a.cells mid → (l : Label) (t : State) → StepBeside x s l t → ls ≡ a.trace ++ l ∷ [] → Made l
-    made_at turn.Main at asked l t step is = made_at_main l t at asked step
-    made_at (turn.Futures n) at asked l t step is = made_next n (next_polled n s.core) l t at refl asked is step
-    made_at (turn.Take b) at asked l t step is = made_elsewhere (turn.Take b) l t at refl asked step
-    made_at (turn.Run n) at asked l t step is = made_elsewhere (turn.Run n) l t at refl asked step
-    made_at turn.Over at asked l t step is = made_elsewhere turn.Over l t at refl asked step
+    made_at : (u : Turn) (found : Bool) → s.turn ≡ u → HasAskedAt Polls Turns u s.core a.main a.cells mid found → (l : Label) (t : State) → StepBeside x s l t → ls ≡ a.trace ++ l ∷ [] → Made l
+    made_at turn.Main found at asked l t step is = made_at_main l t at asked step
+    made_at (turn.Futures n) found at asked l t step is = made_next n (next_polled n s.core) found l t at refl asked is step
+    made_at (turn.Take b) found at asked l t step is = made_elsewhere (turn.Take b) l t at refl asked step
+    made_at (turn.Run n) found at asked l t step is = made_elsewhere (turn.Run n) l t at refl asked step
+    made_at turn.Over found at asked l t step is = made_elsewhere turn.Over l t at refl asked step
 
-    none_at : (u : Turn) → s.turn ≡ u → HasAskedAt Polls Turns u s.core a.main a.cells mid → (o : Outcome) → IsOutcome x s [] 1 o → Adds (λ k. []) 1 a.cells.list.items news
-    none_at turn.Main at asked o is = absurd (runs_show_a_label x s [] o (no_rest_main x s at) refl is)
-    none_at (turn.Futures n) at asked o is = absurd (runs_show_a_label x s [] o (no_rest_polls x s n at) refl is)
-    none_at (turn.Take b) at asked o is = kept asked
-    none_at (turn.Run n) at asked o is = kept asked
-    none_at turn.Over at asked o is = kept asked
+    none_at : (u : Turn) (found : Bool) → s.turn ≡ u → HasAskedAt Polls Turns u s.core a.main a.cells mid found → (o : Outcome) → IsOutcome x s [] 1 o → Adds (λ k. []) 1 a.cells.list.items news
+    none_at turn.Main found at asked o is = absurd (runs_show_a_label x s [] o (no_rest_main x s at) refl is)
+    none_at (turn.Futures n) found at asked o is = absurd (runs_show_a_label x s [] o (no_rest_polls x s n at) refl is)
+    none_at (turn.Take b) found at asked o is = kept asked
+    none_at (turn.Run n) found at asked o is = kept asked
+    none_at turn.Over found at asked o is = kept asked
 
   -- so the cells list them
-  pub step_calls : (b : BesideRun E) (mid : Cells) → HasAskedAt Polls Turns s.turn s.core a.main a.cells mid → NotesOver (ends_work (last_or None b.trace)) mid b.cells → StepCalls c 1 a b
-  step_calls b mid asked over = record {
-    one = λ some l t step is. made_at mid b.trace b.cells.list.items over.0 s.turn refl asked l t step is;
-    none = λ o is. none_at mid b.trace b.cells.list.items over.0 s.turn refl asked o is;
+  pub step_calls : (b : BesideRun E) (mid : Cells) (found : Bool) → HasAskedAt Polls Turns s.turn s.core a.main a.cells mid found → NotesOver (ends_work (last_or None b.trace)) mid b.cells → StepCalls c 1 a b
+  step_calls b mid found asked over = record {
+    one = λ some l t step is. made_at mid b.trace b.cells.list.items over.0 s.turn found refl asked l t step is;
+    none = λ o is. none_at mid b.trace b.cells.list.items over.0 s.turn found refl asked o is;
   }
 
   -- and none, where no step was taken
@@ -240,19 +245,19 @@ module _ {E : Type 0} (c : Component) (a : BesideRun E) (able : Able c a) where
   found_ends true i = refl
   found_ends false i = refl
 
-  pub last_calls : (n i : ℕ) (found : Bool) (b : BesideRun E) (mid : Cells) → next_polled n s.core ≡ Some i → HasAskedNext Polls (next_polled n s.core) a.main a.cells mid →
+  pub last_calls : (n i : ℕ) (found : Bool) (b : BesideRun E) (mid : Cells) → next_polled n s.core ≡ Some i → HasAskedNext Polls s.core (next_polled n s.core) a.main a.cells mid found →
       b.trace ≡ a.trace ++ polled_label found i ∷ [] → NotesOver (ends_work (last_or None b.trace)) mid b.cells →
       Adds (λ k. if_same i (spawned_at p k) (PollFuture ∷ finish_if found)) 1 a.cells.list.items b.cells.list.items
   last_calls n i found b mid next asked is over =
-      let polled = polls_here n i mid next (subst (λ (o : Option ℕ). HasAskedNext Polls o a.main a.cells mid) next asked) in
+      let polled = polls_here n i mid next (subst (λ (o : Option ℕ). HasAskedNext Polls s.core o a.main a.cells mid found) next asked) in
       let ends : ends_work (last_or None b.trace) ≡ found = ends_added a.trace b.trace (polled_label found i) is ∙ found_ends found i in
       adds_as (λ k. on_last mid.polled (PollFuture ∷ []) k ++ on_last mid.polled (finish_if (ends_work (last_or None b.trace))) k) (λ k. if_same i (spawned_at p k) (PollFuture ∷ finish_if found)) 1 a.cells.list.items b.cells.list.items
       (λ k le. ap (λ (e : Bool). on_last mid.polled (PollFuture ∷ []) k ++ on_last mid.polled (finish_if e) k) ends
       ∙ (sym (last_append mid.polled (PollFuture ∷ []) (finish_if found) k) ∙ sym (polled.spawn k (PollFuture ∷ finish_if found) le)))
       (adds_then (on_last mid.polled (PollFuture ∷ [])) (on_last mid.polled (finish_if (ends_work (last_or None b.trace)))) 1 a.cells.list.items mid.list.items b.cells.list.items polled.adds over.0)
 
-  pub last_open : (n : ℕ) (mid : Cells) → HasAskedNext Polls (next_polled n s.core) a.main a.cells mid → IsOpenLast mid.polled mid.list.items
-  last_open n mid asked = next_open n (next_polled n s.core) mid refl asked
+  pub last_open : (n : ℕ) (mid : Cells) (found : Bool) → HasAskedNext Polls s.core (next_polled n s.core) a.main a.cells mid found → IsOpenLast mid.polled mid.list.items
+  last_open n mid found asked = next_open n (next_polled n s.core) mid found refl asked
 
   last_made : (i : ℕ) (found : Bool) (core : Core) → (found ≡ true → is_running_spawn i s.core ≡ true) → core ≡ cond found (poll_ends i None s.core) s.core → core.made.works ≡ s.core.made.works
   last_made i true core running is = ap (λ (k : Core). k.made.works) is ∙ ap (λ m. m.works) (ended_made i s.core (running refl))

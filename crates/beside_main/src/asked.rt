@@ -54,7 +54,7 @@ impl<'a, G: Gate> Beside<GatedMain<'a, G>, (), ScriptedHost, NoHook> for Cells {
 
     ghost same = { same_asked };
 
-    ghost polled = { λ i m a b. PollsCell i m.script a b };
+    ghost polled = { λ i running found m a b. PollsCell i m.script a b };
 
     ghost turned = { λ m a b. CallsMade (λ k. calls_of_op k (op_of m.script)) a b };
 

@@ -23,7 +23,7 @@ use Rattle.machine_rules.specs.Outcome.{call_outcome, last_outcome, loop_outcome
 use Rattle.ops_turns.specs.declared.made.MadeStep.{MadeStep}
 use Rattle.machine_data.specs.declared.records.Turn.{Turn}
 use Rattle.laws_places.proofs.OrderLemmas.{steps_make_few}
-use Rattle.ops_turns.specs.Drive.{Drives, Drove, Going, IsOn, StopsShort, WasGoing}
+use Rattle.ops_turns.specs.Drive.{Drives, Drove, Going, IsOn}
 use Rattle.ops_turns.proofs.KeptLemmas.{core_in_order_after}
 use Rattle.ops_turns.proofs.SettleLemmas.{step_settles}
 use Rattle.ops_turns.specs.Turn.{IsAtTurn, PendsIn, CoreInOrder, Turned, Turns, given, goes_on, setting_of, state_at}
@@ -215,15 +215,3 @@ on_turned_none x s before numbers p m m' t t' mid n steps on room h =
 pub turned_same : (c : Component) (ops ops' : List MainOpDef) (b b' : Bool) (p : Turn) (m : Main) (s : StateView) (made : Option MadeStep) (m' : Main) (t : StateView) → ops ≡ ops' → b ≡ b'
     → Turned (setting_of c ops b) p m s made m' t → Turned (setting_of c ops' b') p m s made m' t
 turned_same c ops ops' b b' p m s made m' t script trap h = subst (λ v. Turned (setting_of c ops' v) p m s made m' t) trap (subst (λ o. Turned (setting_of c o b) p m s made m' t) script h)
-
--- ---- lack of memory
-
--- the run had gone on so far
-pub was_on : (x : Setting) (s : State) (before : List Label) (numbers : ℕ) (p : Turn) (m : Main) (t : StateView) (mid after : List Label) (n steps : ℕ) → IsOn x s before numbers p m t mid n → n ≤ steps → after ≡ mid → WasGoing x s before after steps
-was_on x s before numbers p m t mid after n steps on few same =
-    subst (λ (ls : List Label). WasGoing x s before ls steps) (sym same) (record { last = state_at t.core m p; labels = n; few = few; going = on.going })
-
--- and on, in the same turn
-pub was_on_short : (x : Setting) (s : State) (before : List Label) (numbers : ℕ) (p : Turn) (m : Main) (t : StateView) (mid after : List Label) (n steps : ℕ) → IsOn x s before numbers p m t mid n → StopsShort x.component p t mid n after steps → WasGoing x s before after steps
-was_on_short x s before numbers p m t mid after n steps on short =
-    record { last = state_at short.last.core m p; labels = short.labels; few = short.few; going = (short.on x refl s before numbers m on).going }

@@ -2,9 +2,10 @@
 use Rattle.ops_dispatch.specs.Fits.{calls_host}
 use Rattle.ops_dispatch.specs.Polls.{polled_host}
 use Rattle.std.proofs.Common.{ap, refl, subst, sym, ◌∙◌}
-use Rattle.std.specs.Prelude.{Bool, Err, IfOk, IfSome, List, None, Ok, Option, Result, Some, [], false, is_none, is_some, option_map, true, ℕ, ◌+◌, ◌++◌, ◌<◌, ◌≡◌, ◌≤◌, ◌∷◌}
+use Rattle.std.specs.Prelude.{Bool, Err, IfOk, IfSome, List, None, Ok, OnErr, Option, Result, Some, [], false, is_none, is_some, option_map, true, ℕ, ◌+◌, ◌++◌, ◌<◌, ◌≡◌, ◌≤◌, ◌∷◌}
 use Rattle.machine_data.specs.Core.{Main, State}
 use Rattle.machine_data.specs.Labels.{choice_of}
+use Rattle.machine_data.specs.Moves.{why_of}
 use Rattle.machine_data.specs.Read.{op_progress_of, next_entry, place_of}
 use Rattle.machine_data.specs.declared.component.Component.{Component}
 use Rattle.machine_data.specs.declared.component.HostDef.{HostDef}
@@ -41,7 +42,8 @@ use Rattle.ops_turns.proofs.DriveLemmas.{last_outcome-push, on_ends, on_more, on
 use Rattle.ops_turns.proofs.IdleLemmas.{after_free, free_at}
 use Rattle.ops_turns.proofs.RunLemmas.{host_over, host_picks, label_same, picked_at, push_picks, ran_at, took, took_host, took_picks, took_push}
 use Rattle.ops_turns.specs.Drive.{Drove, IsOn}
-use Rattle.ops_turns.specs.Ran.{OpMade, WorkMade, scripted_rule_of}
+use Rattle.ops_dispatch.specs.Makes.{takes_memory}
+use Rattle.ops_turns.specs.Ran.{OpMade, WantsFor, WantsMemory, WorkMade, scripted_rule_of}
 use Rattle.ops_turns.specs.StepResult.{Added, AddedOrNone, CallStepped, IsFull, MatchStep, OpPolls, OpShown, OpStep, RuleRan, RuleShown, RunMade, RunStepped, Shown, is_made, made_by, turn_of}
 use Rattle.ops_turns.specs.Turn.{IsFree, MakesStep, Turned, Turns, is_open, running_of, runs_in, state_at}
 use Rattle.ops_turns.specs.declared.made.MadeStep.{MadeStep}
@@ -107,6 +109,11 @@ match_then q made nothing full failed h = record { made = λ e. made e (h.made e
 pub of_made : {M N F H : Type 0} (q : StepResult) → is_made q ≡ true → M → MatchStep M N F H q
 of_made q made h = record { made = λ e. h; nothing = λ e. absurd (made_some q made e); full = λ e. absurd (made_room q made e); failed = λ e. absurd (made_hook q made e) }
 
+-- an error of which more is so
+pub err_then : {X E P Q : Type 0} (r : Result X E) → (P → Q) → OnErr r P → OnErr r Q
+err_then (Ok x) f h = tt
+err_then (Err e) f h = f h
+
 pub of_nothing : {M N F H : Type 0} → N → MatchStep M N F H stepped.Nothing
 of_nothing h = record { made = λ e. absurd (cc); nothing = λ e. h; full = λ e. absurd (cc); failed = λ e. absurd (cc) }
 
@@ -123,6 +130,15 @@ of_full q made full lost = record {
   nothing = λ e. absurd (let no = sym e ∙ (full (ap is_made e)).0 in cc);
   full = λ e. lost (full (ap is_made e)).1;
   failed = λ e. absurd (let no = sym e ∙ (full (ap is_made e)).0 in cc);
+}
+
+-- the same, where more is so of one for which memory lacked
+pub of_wants : {M N F H : Type 0} {before after : List Label} (q : StepResult) → (is_made q ≡ true → M) → (is_made q ≡ false → IsFull q before after × F) → MatchStep M N (F × (after ≡ before)) H q
+of_wants q made full = record {
+  made = made;
+  nothing = λ e. absurd (let no = sym e ∙ (full (ap is_made e)).0.0 in cc);
+  full = λ e. let h = full (ap is_made e) in (h.1, h.0.1);
+  failed = λ e. absurd (let no = sym e ∙ (full (ap is_made e)).0.0 in cc);
 }
 
 -- one was made, where no hook was told
@@ -217,9 +233,13 @@ module _ (c : Component) (id : TableId ThreadKey) (n : ℕ) (s t : StateView) (n
   run_steps before after q step polls = record {
     made = λ e. step_made before after q (step.made e) (polls.made e);
     nothing = λ e. (((step.nothing e).0, subst (λ k. calls_host (op_of c k s.core) ≡ true) number (ap calls_host is_op ∙ polls.nothing e)), (step.nothing e).1);
-    full = step.full;
+    full = λ e. (step.full e).1;
     failed = step.failed;
   }
+
+  -- it wants memory for the op at the thread's place
+  pub run_wants : WantsFor o s t → WantsMemory c n s t
+  run_wants wants = (subst (λ k. takes_memory (op_of c k s.core) ≡ true) number (ap takes_memory is_op ∙ wants.0), wants.1)
 
   -- so is what one came to that calls a host
   pub call_steps : (answer : HostPoll) (r : Result (MadeStep × Option (TableId HostTaskKey)) NoMemory) → IfOk r (λ q. RuleRan (scripted_rule_of c o id s) id s q.0 t) → IfOk r (λ q. OpMade answer c o id s q.1 t)
@@ -260,6 +280,13 @@ unfolding popped set_switch set_high set_low
 left_preference marks.Switch s u left = ap preference left
 left_preference marks.High s u left = ap preference left
 left_preference marks.Low s u left = ap preference left
+
+-- nor why a thread is ready
+pub left_why : (mark : Mark) (id : TableId ThreadKey) (s u : StateView) → u ≡ on_core (popped mark) s → why_of (thread_of u id) u.core ≡ why_of (thread_of s id) s.core
+unfolding popped set_switch set_high set_low
+left_why marks.Switch id s u left = ap (λ (v : StateView). why_of (thread_of v id) v.core) left
+left_why marks.High id s u left = ap (λ (v : StateView). why_of (thread_of v id) v.core) left
+left_why marks.Low id s u left = ap (λ (v : StateView). why_of (thread_of v id) v.core) left
 
 -- what the taking of a push shows
 abbrev pub push_made : Mark → ℕ → MadeStep
@@ -335,11 +362,3 @@ module _ (x : Setting) (s : State) (before : List Label) (numbers : ℕ) (p : Tu
 
   pub added_none : (steps : ℕ) → n ≤ steps → Turned x p m t None m' t' × (after ≡ mid) → Drove x s before numbers p m' t' after steps outcome.Idle
   added_none steps room h = subst (λ (l : List Label). Drove x s before numbers p m' t' l steps outcome.Idle) (sym h.1) (on_turned_none x s before numbers p m m' t t' mid n steps on room h.0)
-
--- so it is whether there was room for the step's label or not
-pub by_room : {P : Type 0} (q : StepResult) → ((q ≡ stepped.Full → ⊥) → P) → (is_made q ≡ false → P) → P
-by_room {P = P} q room full = by (is_made q) refl
-  where
-    by : (b : Bool) → is_made q ≡ b → P
-    by true made = room (made_room q made)
-    by false unmade = full unmade

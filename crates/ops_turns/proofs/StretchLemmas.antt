@@ -2,7 +2,7 @@
 use Rattle.std.proofs.Common.{ap, ap₂, append-nil, append_assoc, arith, length-append, refl, subst, sym, true, ◌∙◌, ◌++◌, ◌∷◌, []}
 use Rattle.std.specs.List.{list_all}
 use Rattle.std.specs.Option.{option_map_or}
-use Rattle.std.specs.Prelude.{Bool, Err, IfOk, List, None, Ok, Option, Result, Some, slice_get, unwrap_or, ℕ, ◌+◌, ◌≡◌, ◌≤◌}
+use Rattle.std.specs.Prelude.{Bool, Err, IfOk, List, None, Ok, Option, Result, Some, slice_get, unwrap_or, ℕ, ◌+◌, ◌<◌, ◌≡◌, ◌≤◌}
 use Rattle.laws_labels.specs.Own.{is_data}
 use Rattle.machine_data.specs.Core.{Core, Main}
 use Rattle.machine_data.specs.Labels.{choice_of}
@@ -42,6 +42,7 @@ use Rattle.ops_turns.proofs.OrderLemmas.{number_at, runner, runs_still}
 use Rattle.ops_turns.proofs.RunLemmas.{script_is, settled}
 use Rattle.ops_turns.specs.Context.{KeepsBeside, in_context, state_in}
 use Rattle.task_table.specs.declared.id.TableId.{TableId}
+use Rattle.run_trace.specs.Traced.{Traced}
 use Rattle.ops_turns.specs.Drive.{Computed, Computes, KeepsOn, StopsShort}
 use Rattle.ops_turns.specs.Later.{SameWorks}
 use Rattle.ops_turns.specs.Turn.{CoreInOrder, Turns, running_of, state_at}
@@ -90,9 +91,10 @@ pub computed_run : (c : Component) (n : ℕ) (s : StateView) (before : List Labe
 computed_run c n s before added t after steps (Err e) few on computes = tt
 computed_run c n s before added t after steps (Ok k) few on computes = record { more = few.0; few = few.1; on = on; computes = computes; still = λ none. absurd (cc) }
 
-pub stops_at : (c : Component) (n : ℕ) (s : StateView) (before : List Label) (added : ℕ) (t : StateView) (after : List Label) (k steps : ℕ) → k ≤ steps → KeepsOn c (turn.Run n) s before added t after k
-    → Computes c (turn.Run n) s before added t after k → StopsShort c (turn.Run n) s before added after steps
-stops_at c n s before added t after k steps few on computes = record { last = t; labels = k; few = few; on = on; computes = computes; still = λ none. absurd (cc) }
+-- where there is no room for the next label
+pub stops_at : (c : Component) (n : ℕ) (s : StateView) (before : Traced) (added : ℕ) (t : StateView) (after : Traced) (k steps : ℕ) → k < steps → before.spare + added ≤ k → KeepsOn c (turn.Run n) s before.labels added t after.labels k
+    → Computes c (turn.Run n) s before.labels added t after.labels k → StopsShort c (turn.Run n) s before added t after steps
+stops_at c n s before added t after k steps few room on computes = record { labels = k; few = few; room = room; on = on; computes = computes; still = λ none. absurd (cc) }
 
 module _ (c : Component) (n : ℕ) (t : StateView) (th : Thread) (found : get t.core.threads n ≡ Some th) (runs : running_of t ≡ Some n) (ops : List Op) (script : script_of c n t.core ≡ ops) (x : ThreadContext) where
   abbrev there : Core

@@ -1,12 +1,13 @@
 -- What driving a run adds to a trace.
 use Rattle.std.specs.List.{list_all}
-use Rattle.std.specs.Prelude.{◌≡◌, ℕ, ◌+◌, ◌*◌, ◌≤◌, List, ◌++◌, None, length, true}
+use Rattle.std.specs.Prelude.{◌≡◌, ℕ, ◌+◌, ◌*◌, ◌<◌, ◌≤◌, List, ◌++◌, None, length, true}
 use Rattle.laws_labels.specs.Own.{is_data}
 use Rattle.machine_data.specs.declared.component.Component.{Component}
 use Rattle.machine_data.specs.declared.label.Label.{Label}
 use Rattle.machine_data.specs.declared.outcome.Outcome.{Outcome}
 use Rattle.machine_data.specs.Core.{Main, State}
 use Rattle.machine_rules.specs.Stalled.{Setting}
+use Rattle.run_trace.specs.Traced.{Traced}
 use Rattle.machine_rules.specs.Run.{Run}
 use Rattle.machine_rules.specs.Outcome.{last_outcome, IsOutcome}
 use Rattle.machine_data.specs.declared.records.Turn.{Turn}
@@ -74,19 +75,13 @@ pub record Computed (c : Component) (p : Turn) (s : StateView) (before : List La
   pub computes : Computes c p s before added t after k
   pub still : runs_in p ≡ None → k ≡ added
 
--- It is out of memory: the run has gone on in this turn, by such ops alone, to a state that is lost, and its labels are in the trace.
-pub record StopsShort (c : Component) (p : Turn) (s : StateView) (before : List Label) (added : ℕ) (after : List Label) (steps : ℕ) :
+-- It is out of memory: the run has gone on in this turn, by such ops alone, and its labels are in the trace. At least one more was
+-- to be added, and there was no room for it.
+pub record StopsShort (c : Component) (p : Turn) (s : StateView) (before : Traced) (added : ℕ) (t : StateView) (after : Traced) (steps : ℕ) :
     Type 0 where
-  pub last : StateView
   pub labels : ℕ
-  pub few : labels ≤ steps
-  pub on : KeepsOn c p s before added last after labels
-  pub computes : Computes c p s before added last after labels
+  pub few : labels < steps
+  pub room : before.spare + added ≤ labels
+  pub on : KeepsOn c p s before.labels added t after.labels labels
+  pub computes : Computes c p s before.labels added t after.labels labels
   pub still : runs_in p ≡ None → labels ≡ added
-
--- The labels that were added are those of a run of at most so many, to a state that is lost.
-pub record WasGoing (x : Setting) (s : State) (before after : List Label) (steps : ℕ) : Type 0 where
-  pub last : State
-  pub labels : ℕ
-  pub few : labels ≤ steps
-  pub going : Going x s before last after labels

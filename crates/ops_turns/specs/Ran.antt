@@ -48,5 +48,9 @@ abbrev pub MakesFew : Component → ℕ → Core → Type 0
 MakesFew c n s = makes (op_progress_of n s) (op_of c n s) ≡ true → given s < 2 ^ 61
 
 -- it may take memory, and nothing is changed
+abbrev pub WantsFor : Op → StateView → StateView → Type 0
+WantsFor o s t = (takes_memory o ≡ true) × (t ≡ s)
+
+-- so it is of the op at the thread's place
 abbrev pub WantsMemory : Component → ℕ → StateView → StateView → Type 0
-WantsMemory c n s t = (takes_memory (op_of c n s.core) ≡ true) × (t ≡ s)
+WantsMemory c n s t = WantsFor (op_of c n s.core) s t

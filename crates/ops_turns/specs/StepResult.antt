@@ -1,5 +1,6 @@
 -- A step whose label is in the trace.
-use Rattle.std.specs.Prelude.{Bool, List, None, Option, Some, [], false, is_none, true, ℕ, ◌++◌, ◌≡◌, ◌∷◌}
+use Rattle.run_trace.specs.Traced.{Traced}
+use Rattle.std.specs.Prelude.{Bool, List, None, Option, Some, [], false, is_none, true, ℕ, ◌+◌, ◌++◌, ◌≡◌, ◌≤◌, ◌∷◌}
 use Rattle.ops_dispatch.specs.Fits.{calls_host}
 use Rattle.ops_dispatch.specs.Polls.{polled_host}
 use Rattle.machine_data.specs.Read.{op_progress_of}
@@ -22,7 +23,7 @@ use Rattle.machine_rules.specs.Outcome.{outcome_of_label}
 use Rattle.machine_rules.specs.Progress.{Progress}
 use Rattle.machine_rules.specs.Scripts.{op_of}
 use Rattle.task_table.specs.declared.id.TableId.{TableId}
-use Rattle.ops_turns.specs.Ran.{WorkMade, host_polled, scripted_rule_of}
+use Rattle.ops_turns.specs.Ran.{WantsFor, WorkMade, host_polled, scripted_rule_of}
 use Rattle.ops_turns.specs.Taken.{taking_rule}
 use Rattle.ops_turns.specs.Turn.{MakesFree, Took, TurnedBeside, is_going, is_open, running_of, runs_in}
 use Rattle.ops_turns.specs.declared.made.MadeStep.{MadeStep}
@@ -73,6 +74,11 @@ Added P stepped before after = (made : MadeStep) × (IsInTrace stepped before ma
 abbrev pub AddedOrNone : (Option MadeStep → Type 0) → StepResult → List Label → List Label → Type 0
 AddedOrNone P stepped before after =
     MatchStep (Added (λ made. P (Some made)) stepped before after) (P None × (after ≡ before)) (after ≡ before) ⊥ stepped
+
+-- The trace has room for at most one label less than before; and it is as before, if no step was made.
+pub record TakesRoom (q : StepResult) (before after : Traced) : Type 0 where
+  pub most : before.spare ≤ after.spare + 1
+  pub unmade : is_made q ≡ false → after ≡ before
 
 -- what an op of the thread shows that resulted in this
 abbrev pub made_by : ℕ → OpResult → MadeStep
@@ -140,11 +146,11 @@ pub record RuleRan (row : OpResult → Progress) (id : TableId ThreadKey) (s : S
 abbrev pub CallsHost : Component → ℕ → StateView → StateView → Type 0
 CallsHost c n s t = (t ≡ s) × (calls_host (op_of c n s.core) ≡ true)
 
--- An op of the thread's script was done, and what it shows is in the trace. Or it calls a host, and nothing is changed; or it is out of
--- memory. Then no label was added.
+-- An op of the thread's script was done, and what it shows is in the trace. Or it calls a host, and nothing is changed; or it wants memory
+-- that isn't there, and all is as before. Then no label was added.
 abbrev pub OpStep : Component → Op → TableId ThreadKey → StateView → List Label → StepResult → StateView → List Label → Type 0
 OpStep c o id s before stepped t after =
-    MatchStep (OpShown c o id s before stepped t after) ((t ≡ s) × (after ≡ before)) (after ≡ before) ⊥ stepped
+    MatchStep (OpShown c o id s before stepped t after) ((t ≡ s) × (after ≡ before)) (WantsFor o s t × (after ≡ before)) ⊥ stepped
 
 -- An op polls this host first if it calls one, and isn't done; else it polls none.
 abbrev pub StepPolls : Option HostDef → Op → StepResult → Type 0

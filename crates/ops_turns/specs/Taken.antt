@@ -4,9 +4,10 @@ use Rattle.machine_data.specs.Core.{Core}
 use Rattle.machine_data.specs.Labels.{choice_of}
 use Rattle.machine_data.specs.Maps.{get}
 use Rattle.machine_data.specs.Moves.{why_of}
-use Rattle.machine_data.specs.Read.{admits, instance_of, place_of, task_of, under_of}
+use Rattle.machine_data.specs.Read.{admits, instance_of, next_entry, place_of, task_of, under_of}
 use Rattle.machine_data.specs.declared.label.Label.{Label}
 use Rattle.machine_data.specs.declared.records.Delivery.{Delivery}
+use Rattle.machine_data.specs.declared.records.Entry.TheVariants as entry
 use Rattle.machine_data.specs.declared.records.Place.TheVariants as place
 use Rattle.machine_data.specs.declared.records.Subtask.TheVariants as subtask
 use Rattle.machine_data.specs.declared.records.Why.TheVariants as why
@@ -53,3 +54,7 @@ TakesHost mark i s l t = PicksFirst (preference s) (scripted_host_rule mark i (c
 pub record FindsSet (n : ℕ) (s : Core) : Type 0 where
   pub there : (x : ℕ) → delivered_set (why_of n s) ≡ Some x → is_some (get s.sets x) ≡ true
   pub members : (x : ℕ) → delivered_set (why_of n s) ≡ Some x → MembersNamed (instance_of n s) x s
+
+-- the entry that is taken next is the start of a thread
+abbrev pub StartsNext : Core → Type 0
+StartsNext s = (m : Mark) × ((n : ℕ) × ((next_entry s ≡ Some (m, entry.Thread n)) × (why_of n s ≡ why.Start)))

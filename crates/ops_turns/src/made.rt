@@ -1,11 +1,11 @@
 //! What a step made.
-ghost use Rattle.std.specs.Prelude.{◌≡◌, ◌<◌, None, Some, false, is_none, is_some, true};
+ghost use Rattle.std.specs.Prelude.{◌≡◌, ◌<◌, ◌-◌, None, Some, is_none, is_some, true};
 ghost use Rattle.ops_guests.specs.Steps.{core_after, label_of, turn_after};
 ghost use Rattle.ops_guests.specs.Running.{IsTopmost};
 ghost use Rattle.ops_guests.specs.Works.{KeepsTold};
 ghost use Rattle.machine_rules.specs.Outcome.{last_outcome, outcome_of_label};
 ghost use Rattle.machine_rules.specs.Step.{unwound};
-ghost use Rattle.ops_turns.specs.StepResult.{IsFull, IsInTrace, Shown, is_made, turn_of};
+ghost use Rattle.ops_turns.specs.StepResult.{IsInTrace, Shown, is_made, turn_of};
 ghost use Rattle.ops_turns.specs.Turn.{CanUnwind, OpGoesOn, is_going, is_open, running_of, runs_in};
 ghost use Rattle.core_primitives.specs.StateView.{thread_of};
 
@@ -41,7 +41,7 @@ pub enum StepResult {
     Over,
     /// None was made: the op calls a host, or nothing can go on. No label was added.
     Nothing,
-    /// It is out of memory, and no label was added.
+    /// It is out of memory for what the step does, and no label was added.
     Full,
     /// The hook that is told of groups answered an error.
     HookFailed,
@@ -106,17 +106,17 @@ fn outcome_of(label: Label) -> Option<Outcome>
     }
 }
 
-/// Adds the label of a step that was made to the trace. If it is out of memory, nothing is added.
+/// Adds the label of a step that was made to the trace, which has room for it.
 #[inline(always)]
 pub fn put(trace: &mut PackedLabels, made: MadeStep) -> StepResult
-    ensures in_trace { is_made result ≡ true → IsInTrace result trace.old made trace.new }
-    ensures full { is_made result ≡ false → IsFull result trace.old trace.new }
+    requires { 0 < trace.old.spare }
+    ensures made { is_made result ≡ true }
+    ensures in_trace { IsInTrace result trace.old.labels made trace.new.labels }
+    ensures spare { trace.new.spare ≡ trace.old.spare - 1 }
 {
     // The result is found first, where the turn was, so that no jump is needed.
     let stepped = result_of(made.turn);
-    let Ok(()) = trace.push(made.label) else {
-        return StepResult::Full;
-    };
+    trace.push(made.label);
     stepped
 }
 
@@ -124,8 +124,8 @@ pub fn put(trace: &mut PackedLabels, made: MadeStep) -> StepResult
 #[cold]
 #[inline(never)]
 pub fn outcome_in(trace: &PackedLabels) -> Outcome
-    requires { is_some (last_outcome trace.now) ≡ true }
-    ensures { last_outcome trace.now ≡ Some result }
+    requires { is_some (last_outcome trace.now.labels) ≡ true }
+    ensures { last_outcome trace.now.labels ≡ Some result }
 {
     match trace.last() {
         Some(label) => match outcome_of(label) {
@@ -202,14 +202,14 @@ fn show_unwind<W: Primitives>(
     requires unwinds { CanUnwind op_result (thread_of (W.view w.old) thread) (W.view w.old).core }
     requires goes { OpGoesOn op_result (W.view w.old) }
     requires falls { turn_after op_result ≡ Turn.Over }
-    ensures shown { is_made result ≡ true → Shown thread op_result (W.view w.old) trace.old result (W.view w.new) trace.new }
+    requires room { 0 < trace.old.spare }
+    ensures made { is_made result ≡ true }
+    ensures shown { Shown thread op_result (W.view w.old) trace.old.labels result (W.view w.new) trace.new.labels }
     ensures works { KeepsTold (W.view w.old) (W.view w.new) }
-    ensures full { is_made result ≡ false → IsFull result trace.old trace.new }
+    ensures spare { trace.new.spare ≡ trace.old.spare - 1 }
 {
     let made = made_of(w, thread, op_result);
-    let Ok(()) = trace.push(made.label) else {
-        return StepResult::Full;
-    };
+    trace.push(made.label);
     StepResult::Over
 }
 
@@ -223,9 +223,11 @@ fn show_trap<W: Primitives>(
 ) -> StepResult
     requires unwinds { CanUnwind (OpResult.Traps trap) (thread_of (W.view w.old) thread) (W.view w.old).core }
     requires goes { OpGoesOn (OpResult.Traps trap) (W.view w.old) }
-    ensures shown { is_made result ≡ true → Shown thread (OpResult.Traps trap) (W.view w.old) trace.old result (W.view w.new) trace.new }
+    requires room { 0 < trace.old.spare }
+    ensures made { is_made result ≡ true }
+    ensures shown { Shown thread (OpResult.Traps trap) (W.view w.old) trace.old.labels result (W.view w.new) trace.new.labels }
     ensures works { KeepsTold (W.view w.old) (W.view w.new) }
-    ensures full { is_made result ≡ false → IsFull result trace.old trace.new }
+    ensures spare { trace.new.spare ≡ trace.old.spare - 1 }
 {
     show_unwind(w, thread, trace, OpResult::Traps(trap))
 }
@@ -240,9 +242,11 @@ fn show_failure<W: Primitives>(
 ) -> StepResult
     requires unwinds { CanUnwind (OpResult.Fails work) (thread_of (W.view w.old) thread) (W.view w.old).core }
     requires goes { OpGoesOn (OpResult.Fails work) (W.view w.old) }
-    ensures shown { is_made result ≡ true → Shown thread (OpResult.Fails work) (W.view w.old) trace.old result (W.view w.new) trace.new }
+    requires room { 0 < trace.old.spare }
+    ensures made { is_made result ≡ true }
+    ensures shown { Shown thread (OpResult.Fails work) (W.view w.old) trace.old.labels result (W.view w.new) trace.new.labels }
     ensures works { KeepsTold (W.view w.old) (W.view w.new) }
-    ensures full { is_made result ≡ false → IsFull result trace.old trace.new }
+    ensures spare { trace.new.spare ≡ trace.old.spare - 1 }
 {
     show_unwind(w, thread, trace, OpResult::Fails(work))
 }
@@ -259,9 +263,11 @@ pub(crate) fn show<W: Primitives>(
 ) -> StepResult
     requires unwinds { CanUnwind op_result (thread_of (W.view w.old) thread) (W.view w.old).core }
     requires goes { OpGoesOn op_result (W.view w.old) }
-    ensures shown { is_made result ≡ true → Shown thread op_result (W.view w.old) trace.old result (W.view w.new) trace.new }
+    requires room { 0 < trace.old.spare }
+    ensures made { is_made result ≡ true }
+    ensures shown { Shown thread op_result (W.view w.old) trace.old.labels result (W.view w.new) trace.new.labels }
     ensures works { KeepsTold (W.view w.old) (W.view w.new) }
-    ensures full { is_made result ≡ false → IsFull result trace.old trace.new }
+    ensures spare { trace.new.spare ≡ trace.old.spare - 1 }
 {
     let (label, answer) = match op_result {
         OpResult::Continues(label, next, _) if computed => (label, StepResult::Computes(next)),
@@ -273,8 +279,6 @@ pub(crate) fn show<W: Primitives>(
         OpResult::Traps(trap) => return show_trap(w, thread, trace, trap),
         OpResult::Fails(work) => return show_failure(w, thread, trace, work),
     };
-    let Ok(()) = trace.push(label) else {
-        return StepResult::Full;
-    };
+    trace.push(label);
     answer
 }

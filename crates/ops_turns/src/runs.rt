@@ -2,14 +2,13 @@
 ghost use Rattle.ops_dispatch.specs.Fits.{HasHandles, HasInstances, calls_host, is_plain, op_fits};
 ghost use Rattle.ops_dispatch.specs.Polls.{polled_host};
 ghost use Rattle.ops_dispatch.specs.Runner.{Runner};
-ghost use Rattle.std.specs.Prelude.{◌≡◌, ◌≢◌, ◌+◌, ◌<◌, ◌^◌, IfOk, OnErr, OnOk, Some, false, is_some, true};
+ghost use Rattle.std.specs.Prelude.{◌≡◌, ◌≢◌, ◌+◌, ◌-◌, ◌<◌, ◌≤◌, ◌^◌, IfOk, OnErr, OnOk, Some, false, is_some, true};
 ghost use Rattle.machine_data.specs.Maps.{get};
 ghost use Rattle.machine_data.specs.Read.{op_progress_of, instance_of, position_of};
 ghost use Rattle.ops_guests.specs.Works.{KeepsTold, NamesTold};
 ghost use Rattle.machine_rules.specs.Scripts.{op_of};
-ghost use Rattle.ops_turns.specs.Ran.{DidHere, MakesFew, OpMade, IsBeforeEnd, WantsMemory, scripted_rule_of};
-ghost use Rattle.ops_turns.specs.Later.{TracksSame};
-ghost use Rattle.ops_turns.specs.StepResult.{CallStepped, DataShown, ExitShown, IsFull, OpPolls, OpShown, OpStep, RuleRan, RunStepped, Shown, is_made};
+ghost use Rattle.ops_turns.specs.Ran.{DidHere, MakesFew, OpMade, IsBeforeEnd, WantsFor, WantsMemory, scripted_rule_of};
+ghost use Rattle.ops_turns.specs.StepResult.{CallStepped, DataShown, ExitShown, IsFull, OpPolls, OpShown, OpStep, RuleRan, RunStepped, Shown, TakesRoom, is_made};
 ghost use Rattle.ops_turns.specs.Turn.{CanUnwind, OpGoesOn, CoreInOrder, given, running_of};
 ghost use Rattle.ops_turns.specs.WellFormed.{IsWellFormed};
 ghost use Rattle.core_primitives.specs.StateView.{thread_of};
@@ -64,10 +63,11 @@ fn run_data<W: Primitives>(
 ) -> StepResult
     requires runner { Runner thread (W.view w.old) }
     requires within { IsBeforeEnd end component.now (thread_of (W.view w.old) thread) (W.view w.old).core }
-    ensures shown { is_made result ≡ true → DataShown component.now op.now thread (W.view w.old) trace.old result (W.view w.new) trace.new }
-    ensures works { result ≢ StepResult.Full → KeepsTold (W.view w.old) (W.view w.new) }
-    ensures tracked { TracksSame (W.view w.old) (W.view w.new) }
-    ensures full { is_made result ≡ false → IsFull result trace.old trace.new }
+    requires room { 0 < trace.old.spare }
+    ensures made { is_made result ≡ true }
+    ensures shown { DataShown component.now op.now thread (W.view w.old) trace.old.labels result (W.view w.new) trace.new.labels }
+    ensures works { KeepsTold (W.view w.old) (W.view w.new) }
+    ensures spare { trace.new.spare ≡ trace.old.spare - 1 }
 {
     // only the contract speaks of `component`
     let _component = component;
@@ -97,9 +97,11 @@ fn run_plain<W: Primitives>(
     requires position { position_of (thread_of (W.view w.old) thread) (W.view w.old).core + 1 < 2 ^ 32 }
     requires handles { is_some (get (W.view w.old).core.handles (instance_of (thread_of (W.view w.old) thread) (W.view w.old).core)) ≡ true }
     requires few { given (W.view w.old).core < 2 ^ 61 }
-    ensures shown { is_made result ≡ true → OpShown component.now op.now thread (W.view w.old) trace.old result (W.view w.new) trace.new }
+    requires room { 0 < trace.old.spare }
+    ensures shown { is_made result ≡ true → OpShown component.now op.now thread (W.view w.old) trace.old.labels result (W.view w.new) trace.new.labels }
     ensures works { result ≢ StepResult.Full → NamesTold (W.view w.old) (W.view w.new) }
-    ensures full { is_made result ≡ false → IsFull result trace.old trace.new × TracksSame (W.view w.old) (W.view w.new) }
+    ensures full { is_made result ≡ false → IsFull result trace.old.labels trace.new.labels × WantsFor op.now (W.view w.old) (W.view w.new) }
+    ensures spare { TakesRoom result trace.old trace.new }
 {
     // The thread is there, which is asked once for all that its op looks up.
     match w.number(thread) {
@@ -124,9 +126,11 @@ fn show_exit<W: Primitives>(
 ) -> StepResult
     requires unwinds { CanUnwind op_result (thread_of (W.view w.old) thread) (W.view w.old).core }
     requires goes { OpGoesOn op_result (W.view w.old) }
-    ensures shown { is_made result ≡ true → Shown thread op_result (W.view w.old) trace.old result (W.view w.new) trace.new }
+    requires room { 0 < trace.old.spare }
+    ensures made { is_made result ≡ true }
+    ensures shown { Shown thread op_result (W.view w.old) trace.old.labels result (W.view w.new) trace.new.labels }
     ensures works { KeepsTold (W.view w.old) (W.view w.new) }
-    ensures full { is_made result ≡ false → IsFull result trace.old trace.new }
+    ensures spare { trace.new.spare ≡ trace.old.spare - 1 }
 {
     if let OpResult::Continues(Label::Task(TaskLabel::Exit(number)), next, answer) = op_result {
         let op_result = OpResult::Continues(Label::Task(TaskLabel::Exit(number)), next, answer);
@@ -139,10 +143,11 @@ fn show_exit<W: Primitives>(
 #[inline(never)]
 fn run_exit<W: Primitives>(w: &mut W, thread: ThreadId, trace: &mut PackedLabels) -> StepResult
     requires runner { Runner thread (W.view w.old) }
-    ensures shown { is_made result ≡ true → ExitShown thread (W.view w.old) trace.old result (W.view w.new) trace.new }
-    ensures works { result ≢ StepResult.Full → KeepsTold (W.view w.old) (W.view w.new) }
-    ensures tracked { TracksSame (W.view w.old) (W.view w.new) }
-    ensures full { is_made result ≡ false → IsFull result trace.old trace.new }
+    requires room { 0 < trace.old.spare }
+    ensures made { is_made result ≡ true }
+    ensures shown { ExitShown thread (W.view w.old) trace.old.labels result (W.view w.new) trace.new.labels }
+    ensures works { KeepsTold (W.view w.old) (W.view w.new) }
+    ensures spare { trace.new.spare ≡ trace.old.spare - 1 }
 {
     let op_result = exit(w, thread);
     show_exit(w, thread, trace, op_result)
@@ -165,7 +170,7 @@ fn run_host<W: Primitives>(
     ensures ran { IfOk result (λ q. RuleRan (scripted_rule_of component.now op.now thread (W.view w.old)) thread (W.view w.old) q.0 (W.view w.new)) }
     ensures work { IfOk result (λ q. OpMade answer component.now op.now thread (W.view w.old) q.1 (W.view w.new)) }
     ensures works { OnOk result (NamesTold (W.view w.old) (W.view w.new)) }
-    ensures tracked { TracksSame (W.view w.old) (W.view w.new) }
+    ensures err { OnErr result (WantsFor op.now (W.view w.old) (W.view w.new)) }
 {
     // only the contract speaks of `end`
     let _end = end;
@@ -194,10 +199,11 @@ fn run_by<W: Primitives>(
     requires within { IsBeforeEnd end component.now (thread_of (W.view w.old) thread) (W.view w.old).core }
     requires handles { is_some (get (W.view w.old).core.handles (instance_of (thread_of (W.view w.old) thread) (W.view w.old).core)) ≡ true }
     requires few { given (W.view w.old).core < 2 ^ 61 }
-    ensures step { OpStep component.now op.now thread (W.view w.old) trace.old result (W.view w.new) trace.new }
+    requires room { 0 < trace.old.spare }
+    ensures step { OpStep component.now op.now thread (W.view w.old) trace.old.labels result (W.view w.new) trace.new.labels }
     ensures polls { OpPolls component.now op.now thread (W.view w.old) result }
     ensures works { result ≢ StepResult.Full → NamesTold (W.view w.old) (W.view w.new) }
-    ensures tracked { TracksSame (W.view w.old) (W.view w.new) }
+    ensures spare { TakesRoom result trace.old trace.new }
 {
     match op {
         Op::Call(call) if is_host_call(call) => StepResult::Nothing,
@@ -209,9 +215,9 @@ fn run_by<W: Primitives>(
     }
 }
 
-/// Does the op of the running thread, which has this number, and adds what that shows to the trace. Where the op calls a host
-/// nothing is done, since that is asked for by `step_call`. If it is out of memory, nothing is added, and of the state it is
-/// said that the same groups are tracked.
+/// Does the op of the running thread, which has this number, and adds what that shows to the trace, which has room for it. Where the
+/// op calls a host nothing is done, since that is asked for by `step_call`. It is out of memory only for an op that may take some, and
+/// then all is as before.
 #[inline(always)]
 pub fn step_run<W: Primitives>(
     component: &Component,
@@ -223,9 +229,11 @@ pub fn step_run<W: Primitives>(
     requires order { CoreInOrder component.now (Turn.Run number) (W.view w.old).core }
     requires runs { running_of (W.view w.old) ≡ Some number }
     requires few { given (W.view w.old).core < 2 ^ 61 }
-    ensures ran { RunStepped component.now number (W.view w.old) result (W.view w.new) trace.old trace.new }
+    requires room { 0 < trace.old.spare }
+    ensures ran { RunStepped component.now number (W.view w.old) result (W.view w.new) trace.old.labels trace.new.labels }
     ensures works { result ≢ StepResult.Full → NamesTold (W.view w.old) (W.view w.new) }
-    ensures tracked { TracksSame (W.view w.old) (W.view w.new) }
+    ensures full { result ≡ StepResult.Full → WantsMemory component.now number (W.view w.old) (W.view w.new) }
+    ensures spare { TakesRoom result trace.old trace.new }
 {
     w.none_is_zero();
     let Some(thread) = w.current() else {
@@ -249,9 +257,9 @@ pub fn step_run<W: Primitives>(
 }
 
 /// Has the running thread, which has this number, do its op, which calls a host: the step, whose label is still to be
-/// added, and the work that was made are answered. The host is polled first, and has answered so if it is open. If it is out of
-/// memory, it is said of the state that the same groups are tracked. It is a function of its own, so that what it answers is there
-/// only where a host is called.
+/// added, and the work that was made are answered. The host is polled first, and has answered so if it is open. It is out of memory
+/// only for an op that may take some, and then all is as before. It is a function of its own, so that what it answers is there only
+/// where a host is called.
 #[inline(never)]
 pub fn step_call<W: Primitives>(
     component: &Component,
@@ -266,7 +274,7 @@ pub fn step_call<W: Primitives>(
     requires few { given (W.view w.old).core < 2 ^ 61 }
     ensures ran { IfOk result (λ q. CallStepped answer component.now number (W.view w.old) q (W.view w.new)) }
     ensures works { OnOk result (NamesTold (W.view w.old) (W.view w.new)) }
-    ensures tracked { TracksSame (W.view w.old) (W.view w.new) }
+    ensures err { OnErr result (WantsMemory component.now number (W.view w.old) (W.view w.new)) }
 {
     // only the contract speaks of `number`
     let _number = number;

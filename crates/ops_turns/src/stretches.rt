@@ -1,6 +1,6 @@
 //! A stretch of ops on registers and memory cells, which the running thread does one after another. It works with the thread's
 //! context, which is written back in the end, so that no op looks the thread up.
-ghost use Rattle.std.specs.Prelude.{◌≡◌, ◌≤◌, IfOk, OnErr, Some, true};
+ghost use Rattle.std.specs.Prelude.{◌≡◌, ◌+◌, ◌≤◌, IfOk, OnErr, Some, true};
 ghost use Rattle.machine_data.specs.Read.{op_progress_of};
 ghost use Rattle.machine_data.specs.declared.records.OpProgress.TheVariants as op_progress;
 ghost use Rattle.ops_turns.specs.Later.{SameWorks};
@@ -26,8 +26,9 @@ fn is_plain<W: Primitives>(w: &W, thread: ThreadId, script: &[Op], position: u32
 }
 
 /// Does the ops on registers and memory cells of the running thread, which has this number, one after another, up to another op, to
-/// its script's end or to so many labels, of which some were added before. Answers how many labels were added then. It is a
-/// function of its own, so that a turn without such ops saves no registers.
+/// its script's end or to so many labels, of which some were added before. Answers how many labels were added then. If the trace has
+/// no room for the next label and can't get it, the op is not done. It is a function of its own, so that a turn without such ops saves
+/// no registers.
 #[inline(never)]
 pub(crate) fn stretch<W: Primitives>(
     component: &Component,
@@ -42,9 +43,10 @@ pub(crate) fn stretch<W: Primitives>(
     requires runs { running_of (W.view w.old) ≡ Some number }
     requires few { added ≤ steps }
     ensures few { IfOk result (λ k. (added ≤ k) × (k ≤ steps)) }
-    ensures on { IfOk result (λ k. KeepsOn component.now (Turn.Run number) (W.view w.old) trace.old added (W.view w.new) trace.new k) }
-    ensures computes { IfOk result (λ k. Computes component.now (Turn.Run number) (W.view w.old) trace.old added (W.view w.new) trace.new k) }
-    ensures err { OnErr result (StopsShort component.now (Turn.Run number) (W.view w.old) trace.old added trace.new steps) }
+    ensures on { IfOk result (λ k. KeepsOn component.now (Turn.Run number) (W.view w.old) trace.old.labels added (W.view w.new) trace.new.labels k) }
+    ensures computes { IfOk result (λ k. Computes component.now (Turn.Run number) (W.view w.old) trace.old.labels added (W.view w.new) trace.new.labels k) }
+    ensures spare { IfOk result (λ k. trace.old.spare + added ≤ trace.new.spare + k) }
+    ensures err { OnErr result (StopsShort component.now (Turn.Run number) (W.view w.old) trace.old added (W.view w.new) trace.new steps) }
     ensures works { SameWorks (W.view w.old) (W.view w.new) }
 {
     w.none_is_zero();
@@ -64,10 +66,12 @@ pub(crate) fn stretch<W: Primitives>(
             w.set_context(thread, context.position, &context.registers);
             return Ok(count);
         };
-        let label = computes_in(w, &mut context, number, instance, end, op);
-        let Ok(()) = trace.push(Label::Data(label)) else {
+        let Ok(()) = trace.make_room() else {
+            w.set_context(thread, context.position, &context.registers);
             return Err(NoMemory);
         };
+        let label = computes_in(w, &mut context, number, instance, end, op);
+        trace.push(Label::Data(label));
     }
     w.set_context(thread, context.position, &context.registers);
     Ok(steps)

@@ -1,6 +1,6 @@
 //! The taking of an entry of a thread.
 ghost use Rattle.ops_turns.specs.Worked.{tracked_entry_group};
-ghost use Rattle.std.specs.Prelude.{◌≡◌, ◌≢◌, ◌<◌, IfOk, None, OnOk, Some, false, true};
+ghost use Rattle.std.specs.Prelude.{◌≡◌, ◌+◌, ◌-◌, ◌<◌, ◌≤◌, IfOk, None, OnErr, Some, false, true};
 ghost use Rattle.machine_data.specs.Moves.{why_of};
 ghost use Rattle.machine_data.specs.Read.{next_entry};
 ghost use Rattle.machine_data.specs.declared.label.Label.TheVariants as labels;
@@ -12,9 +12,8 @@ ghost use Rattle.ops_guests.specs.Stays.{StaysAfter};
 ghost use Rattle.ops_guests.specs.Works.{KeepsTold};
 ghost use Rattle.machine_rules.specs.Places.{Placed};
 ghost use Rattle.machine_rules.specs.Takes.{pushed};
-ghost use Rattle.ops_turns.specs.Later.{TracksSame};
-ghost use Rattle.ops_turns.specs.StepResult.{IsFull, Shown, TakingShown, TookShown, is_made};
-ghost use Rattle.ops_turns.specs.Taken.{FindsSet, Taken, TakesDelivery, TakesHost, TakesThread};
+ghost use Rattle.ops_turns.specs.StepResult.{IsFull, Shown, TakesRoom, TakingShown, TookShown, is_made};
+ghost use Rattle.ops_turns.specs.Taken.{FindsSet, StartsNext, Taken, TakesDelivery, TakesHost, TakesThread};
 ghost use Rattle.ops_turns.specs.Turn.{CanUnwind, OpGoesOn, Shows, CoreInOrder, Took};
 ghost use Rattle.core_primitives.specs.StateView.{on_core, thread_of, work_of};
 
@@ -70,7 +69,8 @@ fn take_thread<W: Primitives>(w: &mut W, mark: Mark, thread: ThreadId) -> Result
     ensures stays { IfOk result (λ op_result. StaysAfter op_result (W.view w.old) (W.view w.new)) }
     ensures tags { (W.view w.new).tags ≡ (W.view w.old).tags }
     ensures current { (W.view w.new).current ≡ (W.view w.old).current }
-    ensures works { OnOk result (KeepsTold (W.view w.old) (W.view w.new)) }
+    ensures works { KeepsTold (W.view w.old) (W.view w.new) }
+    ensures err { OnErr result (why_of (thread_of (W.view w.old) thread) (W.view w.old).core ≡ whys.Start) }
 {
     match w.why(thread) {
         Why::Start => take_start(w, mark, thread),
@@ -89,9 +89,11 @@ fn show_taken<W: Primitives>(
 ) -> StepResult
     requires unwinds { CanUnwind op_result (thread_of (W.view w.old) thread) (W.view w.old).core }
     requires goes { OpGoesOn op_result (W.view w.old) }
-    ensures shown { is_made result ≡ true → Shown thread op_result (W.view w.old) trace.old result (W.view w.new) trace.new }
+    requires room { 0 < trace.old.spare }
+    ensures made { is_made result ≡ true }
+    ensures shown { Shown thread op_result (W.view w.old) trace.old.labels result (W.view w.new) trace.new.labels }
     ensures works { KeepsTold (W.view w.old) (W.view w.new) }
-    ensures full { is_made result ≡ false → IsFull result trace.old trace.new }
+    ensures spare { trace.new.spare ≡ trace.old.spare - 1 }
 {
     if let OpResult::Continues(Label::Take(label), next, answer) = op_result {
         return show(
@@ -115,10 +117,12 @@ fn step_thread<W: Primitives>(
 ) -> StepResult
     requires taken { Taken mark (thread_of (W.view w.old) thread) (W.view w.old).core }
     requires finds { FindsSet (thread_of (W.view w.old) thread) (W.view w.old).core }
-    ensures shown { is_made result ≡ true → TakingShown mark thread (W.view w.old) trace.old result (W.view w.new) trace.new }
-    ensures works { result ≢ StepResult.Full → KeepsTold (W.view w.old) (W.view w.new) }
-    ensures tracked { TracksSame (W.view w.old) (W.view w.new) }
-    ensures full { is_made result ≡ false → IsFull result trace.old trace.new }
+    requires room { 0 < trace.old.spare }
+    ensures shown { is_made result ≡ true → TakingShown mark thread (W.view w.old) trace.old.labels result (W.view w.new) trace.new.labels }
+    ensures works { KeepsTold (W.view w.old) (W.view w.new) }
+    ensures full { is_made result ≡ false → IsFull result trace.old.labels trace.new.labels }
+    ensures wants { is_made result ≡ false → why_of (thread_of (W.view w.old) thread) (W.view w.old).core ≡ whys.Start }
+    ensures spare { TakesRoom result trace.old trace.new }
 {
     w.set_current(Some(thread));
     let Ok(op_result) = take_thread(w, mark, thread) else {
@@ -160,8 +164,9 @@ fn step_host<W: Primitives>(w: &mut W, mark: Mark, work: WorkId) -> MadeStep
     }
 }
 
-/// Takes the next entry, and adds what that shows to the trace; none where nothing is there. If it is out of memory, nothing is
-/// added, and of the state it is said that the same groups are tracked. It is asked whose work it is, where the entry is that of one.
+/// Takes the next entry, and adds what that shows to the trace, which has room for it; none where nothing is there. It is out of
+/// memory only for a start. Then nothing is added, and of the state it is said that it has the same works and groups. It is asked
+/// whose work it is, where the entry is that of one.
 #[inline(never)]
 pub(crate) fn step_take<W: Primitives>(
     component: &Component,
@@ -173,10 +178,12 @@ pub(crate) fn step_take<W: Primitives>(
     requires unworked { worked.old ≡ None }
     requires order { CoreInOrder component.now (Turn.Take ended) (W.view w.old).core }
     requires current { (W.view w.old).current ≡ None }
+    requires room { 0 < trace.old.spare }
     ensures worked { worked.new ≡ tracked_entry_group (next_entry (W.view w.old).core) (W.view w.old) }
-    ensures took { TookShown component.now ended (W.view w.old) trace.old result (W.view w.new) trace.new }
-    ensures works { result ≢ StepResult.Full → KeepsTold (W.view w.old) (W.view w.new) }
-    ensures tracked { TracksSame (W.view w.old) (W.view w.new) }
+    ensures took { TookShown component.now ended (W.view w.old) trace.old.labels result (W.view w.new) trace.new.labels }
+    ensures works { KeepsTold (W.view w.old) (W.view w.new) }
+    ensures full { result ≡ StepResult.Full → StartsNext (W.view w.old).core }
+    ensures spare { TakesRoom result trace.old trace.new }
 {
     // only the contract speaks of `component`
     let _component = component;

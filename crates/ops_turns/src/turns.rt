@@ -1,14 +1,15 @@
 //! The turns of a run in which main has no part.
 ghost use Rattle.ops_turns.specs.Worked.{MayPoll, PollsWork, TellsOfNext, tracked_worked_group};
-ghost use Rattle.std.specs.Prelude.{◌≡◌, ◌≢◌, ◌≤◌, IfOk, None, OnErr};
+ghost use Rattle.std.specs.Prelude.{◌≡◌, ◌≢◌, ◌+◌, ◌<◌, ◌≤◌, IfOk, None, OnErr};
 ghost use Rattle.laws_states.specs.Order.{WorksQueued};
 ghost use Rattle.machine_data.specs.Read.{next_entry};
 ghost use Rattle.ops_guests.specs.Works.{KeepsTold};
 ghost use Rattle.machine_rules.specs.Stalled.{is_unended_take};
-ghost use Rattle.ops_turns.specs.Later.{SameWorks, TracksSame};
+ghost use Rattle.ops_turns.specs.Later.{SameWorks};
 ghost use Rattle.ops_turns.specs.WellFormed.{IsWellFormed};
 ghost use Rattle.ops_turns.specs.Drive.{Computed, StopsShort};
-ghost use Rattle.ops_turns.specs.StepResult.{TakesBeside, turn_of};
+ghost use Rattle.ops_turns.specs.StepResult.{TakesBeside, TakesRoom, turn_of};
+ghost use Rattle.ops_turns.specs.Taken.{StartsNext};
 ghost use Rattle.ops_turns.specs.Turn.{IsAtTurn, RunnerThere, CoreInOrder, Rested, TellsRest, TurnsBeside, running_of, runs_in};
 ghost use Rattle.core_primitives.specs.StateView.{work_of};
 
@@ -67,8 +68,8 @@ fn rest<W: Primitives>(w: &mut W, trap_on_idle: bool) -> Option<MadeStep>
     Some(step_deadlock(w))
 }
 
-/// Takes the next entry, or else finds out why there is none. What that shows is added to the trace. If it is out of memory,
-/// nothing is added, and of the state it is said that the same groups are tracked.
+/// Takes the next entry, or else finds out why there is none. What that shows is added to the trace, which has room for it. It is out
+/// of memory only for a start. Then nothing is added, and of the state it is said that it has the same works and groups.
 pub fn take<W: Primitives>(
     component: &Component,
     w: &mut W,
@@ -79,11 +80,13 @@ pub fn take<W: Primitives>(
 ) -> StepResult
     requires unworked { worked.old ≡ None }
     requires at { IsAtTurn component.now (Turn.Take ended) (W.view w.old) }
+    requires room { 0 < trace.old.spare }
     ensures worked { worked.new ≡ tracked_worked_group (W.view w.old) (Turn.Take ended) }
-    ensures turned { TakesBeside component.now trap_on_idle ended (W.view w.old) result (W.view w.new) trace.old trace.new }
+    ensures turned { TakesBeside component.now trap_on_idle ended (W.view w.old) result (W.view w.new) trace.old.labels trace.new.labels }
     ensures there { result ≢ StepResult.Full → RunnerThere (W.view w.new) }
-    ensures works { result ≢ StepResult.Full → KeepsTold (W.view w.old) (W.view w.new) }
-    ensures tracked { TracksSame (W.view w.old) (W.view w.new) }
+    ensures works { KeepsTold (W.view w.old) (W.view w.new) }
+    ensures full { result ≡ StepResult.Full → StartsNext (W.view w.old).core }
+    ensures spare { TakesRoom result trace.old trace.new }
 {
     let taken = step_take(component, w, ended, trace, worked);
     let StepResult::Nothing = taken else {
@@ -99,7 +102,8 @@ pub fn take<W: Primitives>(
 }
 
 /// Does the ops on registers and memory cells that come next, if a thread runs. They are looked for only where such an op
-/// made the last label and another seems to follow it, since ops mostly come alone.
+/// made the last label and another seems to follow it, since ops mostly come alone. It is out of memory only if the trace had no room
+/// for the next label. Then the state is that to which the labels lead that were added.
 #[inline(always)]
 pub fn compute<W: Primitives>(
     component: &Component,
@@ -113,8 +117,9 @@ pub fn compute<W: Primitives>(
     requires order { CoreInOrder component.now (turn_of stepped) (W.view w.old).core }
     requires runs { running_of (W.view w.old) ≡ runs_in (turn_of stepped) }
     requires few { added ≤ steps }
-    ensures ok { IfOk result (λ k. Computed component.now (turn_of stepped) (W.view w.old) trace.old added (W.view w.new) trace.new steps k) }
-    ensures err { OnErr result (StopsShort component.now (turn_of stepped) (W.view w.old) trace.old added trace.new steps) }
+    ensures ok { IfOk result (λ k. Computed component.now (turn_of stepped) (W.view w.old) trace.old.labels added (W.view w.new) trace.new.labels steps k) }
+    ensures spare { IfOk result (λ k. trace.old.spare + added ≤ trace.new.spare + k) }
+    ensures err { OnErr result (StopsShort component.now (turn_of stepped) (W.view w.old) trace.old added (W.view w.new) trace.new steps) }
     ensures works { SameWorks (W.view w.old) (W.view w.new) }
 {
     match stepped {

@@ -1,5 +1,6 @@
 //! Labels into the list, each group of them apart: what is known of a label is known where it is packed.
-ghost use Rattle.std.specs.Prelude.{◌≡◌, [], ◌∷◌, ◌++◌, OnOk, OnErr};
+ghost use Rattle.run_trace.specs.Traced.{with_label};
+ghost use Rattle.std.specs.Prelude.{◌≡◌, ◌<◌};
 ghost use Rattle.machine_data.specs.declared.label.Label.TheVariants as Label;
 ghost use Rattle.machine_data.specs.declared.label.TakeLabel.TheVariants as TakeLabel;
 ghost use Rattle.machine_data.specs.declared.label.SetLabel.TheVariants as SetLabel;
@@ -13,14 +14,13 @@ use machine_data::{
     CallLabel, DataLabel, Given, LoopLabel, MainLabel, Mark, SetLabel, TakeLabel, TaskEvent,
     TaskLabel, ThreadLabel,
 };
-use std::alloc::AllocError;
 
 impl PackedLabels {
     // A label of main. It is a function of its own, as few labels are.
     #[inline(never)]
-    pub(crate) fn push_main(&mut self, label: MainLabel) -> Result<(), AllocError>
-        ensures ok { OnOk result (self.new ≡ self.old ++ Label.Main label ∷ []) }
-        ensures err { OnErr result (self.new ≡ self.old) }
+    pub(crate) fn push_main(&mut self, label: MainLabel)
+        requires { 0 < self.old.spare }
+        ensures { self.new ≡ with_label self.old (Label.Main label) }
     {
         let (kind, shown) = match label {
             MainLabel::Start(start, thread) => return self.put_one(
@@ -55,9 +55,9 @@ impl PackedLabels {
 
     // A label of the loop.
     #[inline(always)]
-    pub(crate) fn push_loop(&mut self, label: LoopLabel) -> Result<(), AllocError>
-        ensures ok { OnOk result (self.new ≡ self.old ++ Label.Loop label ∷ []) }
-        ensures err { OnErr result (self.new ≡ self.old) }
+    pub(crate) fn push_loop(&mut self, label: LoopLabel)
+        requires { 0 < self.old.spare }
+        ensures { self.new ≡ with_label self.old (Label.Loop label) }
     {
         let (kind, number) = match label {
             LoopLabel::MainPends => (LoopKind::MainPends, 0),
@@ -74,9 +74,9 @@ impl PackedLabels {
 
     // A taking that hands out an event.
     #[inline(always)]
-    fn push_event(&mut self, mark: Mark, given: Given, thread: u64) -> Result<(), AllocError>
-        ensures ok { OnOk result (self.new ≡ self.old ++ Label.Take (TakeLabel.Event mark given thread) ∷ []) }
-        ensures err { OnErr result (self.new ≡ self.old) }
+    fn push_event(&mut self, mark: Mark, given: Given, thread: u64)
+        requires { 0 < self.old.spare }
+        ensures { self.new ≡ with_label self.old (Label.Take (TakeLabel.Event mark given thread)) }
     {
         let kind = match given {
             Given::Subtask { status, handle } => return self.put_one(
@@ -92,9 +92,9 @@ impl PackedLabels {
 
     // A taking. Those that wake a thread are seldom.
     #[inline(always)]
-    pub(crate) fn push_take(&mut self, label: TakeLabel) -> Result<(), AllocError>
-        ensures ok { OnOk result (self.new ≡ self.old ++ Label.Take label ∷ []) }
-        ensures err { OnErr result (self.new ≡ self.old) }
+    pub(crate) fn push_take(&mut self, label: TakeLabel)
+        requires { 0 < self.old.spare }
+        ensures { self.new ≡ with_label self.old (Label.Take label) }
     {
         let (mark, kind, number) = match label {
             TakeLabel::Event(mark, given, thread) => return self.push_event(mark, given, thread),
@@ -131,9 +131,9 @@ impl PackedLabels {
 
     // An op on registers and memory cells.
     #[inline(always)]
-    pub(crate) fn push_data(&mut self, label: DataLabel) -> Result<(), AllocError>
-        ensures ok { OnOk result (self.new ≡ self.old ++ Label.Data label ∷ []) }
-        ensures err { OnErr result (self.new ≡ self.old) }
+    pub(crate) fn push_data(&mut self, label: DataLabel)
+        requires { 0 < self.old.spare }
+        ensures { self.new ≡ with_label self.old (Label.Data label) }
     {
         let (kind, thread, value) = match label {
             DataLabel::Set(thread, value) => (DataKind::Set, thread, value),
@@ -148,9 +148,9 @@ impl PackedLabels {
 
     // An end of a task, an activation or a thread, or backpressure.
     #[inline(always)]
-    pub(crate) fn push_task(&mut self, label: TaskLabel) -> Result<(), AllocError>
-        ensures ok { OnOk result (self.new ≡ self.old ++ Label.Task label ∷ []) }
-        ensures err { OnErr result (self.new ≡ self.old) }
+    pub(crate) fn push_task(&mut self, label: TaskLabel)
+        requires { 0 < self.old.spare }
+        ensures { self.new ≡ with_label self.old (Label.Task label) }
     {
         let (kind, thread) = match label {
             TaskLabel::Ret(thread, value) => return self.two(
@@ -181,9 +181,9 @@ impl PackedLabels {
 
     // A wait that got this.
     #[inline(always)]
-    fn push_wait(&mut self, given: Given, thread: u64) -> Result<(), AllocError>
-        ensures ok { OnOk result (self.new ≡ self.old ++ Label.Set (SetLabel.Wait given thread) ∷ []) }
-        ensures err { OnErr result (self.new ≡ self.old) }
+    fn push_wait(&mut self, given: Given, thread: u64)
+        requires { 0 < self.old.spare }
+        ensures { self.new ≡ with_label self.old (Label.Set (SetLabel.Wait given thread)) }
     {
         let kind = match given {
             Given::Subtask { status, handle } => return self.put_one(
@@ -199,9 +199,9 @@ impl PackedLabels {
 
     // A poll that got this.
     #[inline(always)]
-    fn push_poll(&mut self, given: Given, thread: u64) -> Result<(), AllocError>
-        ensures ok { OnOk result (self.new ≡ self.old ++ Label.Set (SetLabel.Poll given thread) ∷ []) }
-        ensures err { OnErr result (self.new ≡ self.old) }
+    fn push_poll(&mut self, given: Given, thread: u64)
+        requires { 0 < self.old.spare }
+        ensures { self.new ≡ with_label self.old (Label.Set (SetLabel.Poll given thread)) }
     {
         let kind = match given {
             Given::Subtask { status, handle } => return self.put_one(
@@ -217,9 +217,9 @@ impl PackedLabels {
 
     // An op on sets.
     #[inline(always)]
-    pub(crate) fn push_set(&mut self, label: SetLabel) -> Result<(), AllocError>
-        ensures ok { OnOk result (self.new ≡ self.old ++ Label.Set label ∷ []) }
-        ensures err { OnErr result (self.new ≡ self.old) }
+    pub(crate) fn push_set(&mut self, label: SetLabel)
+        requires { 0 < self.old.spare }
+        ensures { self.new ≡ with_label self.old (Label.Set label) }
     {
         let (kind, thread) = match label {
             SetLabel::New(handle, thread) => return self.put_one(
@@ -247,9 +247,9 @@ impl PackedLabels {
 
     // An op on subtasks.
     #[inline(always)]
-    pub(crate) fn push_call(&mut self, label: CallLabel) -> Result<(), AllocError>
-        ensures ok { OnOk result (self.new ≡ self.old ++ Label.Call label ∷ []) }
-        ensures err { OnErr result (self.new ≡ self.old) }
+    pub(crate) fn push_call(&mut self, label: CallLabel)
+        requires { 0 < self.old.spare }
+        ensures { self.new ≡ with_label self.old (Label.Call label) }
     {
         let (kind, thread, second) = match label {
             CallLabel::Calls(thread, callee) => (CallKind::Calls, thread, callee),
@@ -281,9 +281,9 @@ impl PackedLabels {
 
     // An op on threads.
     #[inline(always)]
-    pub(crate) fn push_thread(&mut self, label: ThreadLabel) -> Result<(), AllocError>
-        ensures ok { OnOk result (self.new ≡ self.old ++ Label.Thread label ∷ []) }
-        ensures err { OnErr result (self.new ≡ self.old) }
+    pub(crate) fn push_thread(&mut self, label: ThreadLabel)
+        requires { 0 < self.old.spare }
+        ensures { self.new ≡ with_label self.old (Label.Thread label) }
     {
         let (kind, thread) = match label {
             ThreadLabel::New(handle, thread, made) => return self.put_two(

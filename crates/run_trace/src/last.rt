@@ -9,7 +9,7 @@ use machine_data::Label;
 impl PackedLabels {
     /// Returns the label that was added last; none if there is none.
     pub fn last(&self) -> Option<Label>
-        ensures { result ≡ last_or None self.now }
+        ensures { result ≡ last_or None self.now.labels }
     {
         let head = self.heads.last()?;
         let from = self.numbers.len().saturating_sub(head.count.into());

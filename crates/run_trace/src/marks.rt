@@ -24,7 +24,7 @@ impl PackedLabels {
     /// taking, and past the last label. Its numbers aren't read.
     #[inline(always)]
     pub fn mark(&self, place: usize) -> Option<Mark>
-        ensures { result ≡ slice_index_or (map mark_taken self.now) place None }
+        ensures { result ≡ slice_index_or (map mark_taken self.now.labels) place None }
     {
         match self.heads.get(place) {
             Some(head) => mark_of(head.kind),

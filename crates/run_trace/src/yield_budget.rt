@@ -95,7 +95,7 @@ impl YieldBudget {
     /// Returns the budget after the steps whose labels are in the trace from this index on, where the run is polled on wherever it
     /// yields.
     pub fn driven(self, trace: &PackedLabels, from: usize) -> Self
-        ensures since { result.since ≡ since_driven self.passes self.since (drop from trace.now) }
+        ensures since { result.since ≡ since_driven self.passes self.since (drop from trace.now.labels) }
         ensures passes { result.passes ≡ false }
     {
         let mut yield_budget = self;

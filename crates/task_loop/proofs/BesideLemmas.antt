@@ -5,11 +5,12 @@ use Rattle.laws_beside.specs.Wide.{AbortedAt, FindsAbort, FindsRequest, Requeste
 use Rattle.std.proofs.Common.{ap, ap₂, arith, inl, inr, refl, subst, sym, ◌∙◌}
 use Rattle.std.proofs.lemmas.Bool.Decides.{nat_tests}
 use Rattle.std.specs.Option.{option_map_or}
-use Rattle.std.specs.Prelude.{Bool, Err, List, None, Ok, OnOk, Option, Result, Some, [], false, true, ℕ, ◌&&◌, ◌+◌, ◌++◌, ◌∷◌, ◌≡◌, ◌≤◌}
+use Rattle.std.specs.Prelude.{Bool, Err, IfSome, List, None, Ok, Option, Result, Some, [], false, is_some, true, ℕ, ◌&&◌, ◌+◌, ◌++◌, ◌∷◌, ◌≡◌, ◌≤◌}
 use Rattle.laws_states.specs.Order.{InOrder}
 use Rattle.run_trace.specs.declared.yield_budget.YieldBudget.{YieldBudget}
-use Rattle.task_loop.specs.Beside.{HasAskedAt, HasEndedAborted, HasMet, HasPassed, HasPolledLast, IsNextAborted, MayMeet, StepsBeside}
-use Rattle.task_loop.specs.HasRun.{At, DrivesTo, HasLost, MayRun, MayTakeTurn, setting, state}
+use Rattle.task_loop.specs.Beside.{HasAskedAt, HasEndedAborted, HasMet, HasPassed, HasPolledLast, IsFound, IsNextAborted, IsRunAsBefore, MayMeet, StepsBeside}
+use Rattle.task_loop.specs.HasRun.{At, DrivesTo, HasLost, MayRun, MayTakeTurn, at, setting, state}
+use Rattle.task_loop.specs.declared.run.RunConcurrent.{RunConcurrent}
 use Rattle.task_loop.specs.Says.{Says}
 use Rattle.machine_data.proofs.CommuteLemmas.{get-change}
 use Rattle.machine_data.specs.Core.{Core, Main, MainPlace, Scripted, State, Unscripted}
@@ -33,6 +34,7 @@ use Rattle.machine_data.specs.declared.component.HostDef.{HostDef}
 use Rattle.machine_data.specs.declared.records.Course.TheVariants as courses
 use Rattle.machine_data.specs.declared.scenario.MainOpDef.{MainOpDef}
 use Rattle.machine_data.specs.declared.scenario.MainOpDef.TheVariants as main_op
+use Rattle.machine_data.specs.declared.statuses.Phase.{Phase}
 use Rattle.machine_data.specs.declared.statuses.Phase.TheVariants as phase
 use Rattle.ops_guests.specs.Works.{KeepsTold, KeepsWorks}
 use Rattle.machine_rules.specs.MainOps.{advanced_main, is_spawn, is_spawn_caller, main_aborted}
@@ -341,12 +343,13 @@ module _ {M T H G : Type 0} (says : Says M) (course : H → HostDef) (c : Compon
 
   module _ (stays : (m : M) (s t : StateView) → WorksLast s t → says.knows m s → says.knows m t) (a b : At M T H G) (may : MayRun says course c a) (main : b.main ≡ a.main) (polled : ℕ) where
     -- the work pends, and nothing else is changed
-    pub pends_last : (i : ℕ) → next_polled polled a.store.state.core ≡ Some i → b.store ≡ a.store → b.turn ≡ a.turn → b.trace ≡ a.trace ++ label.Loop (loop_label.FuturePends i) ∷ [] →
-        HasPolledLast says course c polled a b
-    pends_last i next store same trace = record {
+    pub pends_last : (was_asked : Bool → Type 0) → was_asked false → (i : ℕ) → next_polled polled a.store.state.core ≡ Some i → b.store ≡ a.store → b.turn ≡ a.turn →
+        b.trace ≡ a.trace ++ label.Loop (loop_label.FuturePends i) ∷ [] → HasPolledLast says course c was_asked polled a b
+    pends_last was_asked asks i next store same trace = record {
       number = i;
       next = next;
       found = false;
+      asked = asks;
       running = λ is. absurd (cc);
       trace = trace;
       core = ap (λ (t : Store T H G). t.state.core) store;
@@ -378,14 +381,15 @@ module _ {M T H G : Type 0} (says : Says M) (course : H → HostDef) (c : Compon
     settles_none false = refl
 
     -- it has ended, and main's turn comes
-    pub ends_last : (h : SpawnHandle) → IsNextAborted polled h a.store.state → (p : Turn) → HasEndedAborted course c h.number a.store b.store p → b.turn ≡ turn.Main →
-        b.trace ≡ a.trace ++ label.Loop (loop_label.FutureAborted h.number) ∷ [] → HasPolledLast says course c polled a b
-    ends_last h next p ended comes trace =
+    pub ends_last : (was_asked : Bool → Type 0) → was_asked true → (h : SpawnHandle) → IsNextAborted polled h a.store.state → (p : Turn) → HasEndedAborted course c h.number a.store b.store p →
+        b.turn ≡ turn.Main → b.trace ≡ a.trace ++ label.Loop (loop_label.FutureAborted h.number) ∷ [] → HasPolledLast says course c was_asked polled a b
+    ends_last was_asked asks h next p ended comes trace =
         let none : runs_in p ≡ None = ap runs_in ended.turn ∙ settles_none (queues_are_empty b.store.state.core) in
         record {
           number = h.number;
           next = next.1.0;
           found = true;
+          asked = asks;
           running = λ is. running_spawn h.number a.store.state.core next.0.there next.1.1;
           trace = trace;
           core = ended.core;
@@ -404,15 +408,10 @@ module _ {M T H G : Type 0} (says : Says M) (course : H → HostDef) (c : Compon
 
   -- ---- A step of the machine's own
 
-  pub drives_beside : (listens : Bool) (r : Result Outcome NoMemory) (yield_budget : YieldBudget) (a b : At M T H G) (yield_budget' : YieldBudget) →
-      DrivesTo says course c listens 1 r yield_budget a b yield_budget' → StepsBeside says course c listens r yield_budget a b yield_budget'
-  drives_beside listens (Ok outcome.OutOfSteps) yield_budget a b yield_budget' drives = inr drives
-  drives_beside listens (Ok (outcome.Done n)) yield_budget a b yield_budget' drives = drives
-  drives_beside listens (Ok (outcome.Trap q)) yield_budget a b yield_budget' drives = drives
-  drives_beside listens (Ok (outcome.HostFailed n)) yield_budget a b yield_budget' drives = drives
-  drives_beside listens (Ok (outcome.Deadlock q)) yield_budget a b yield_budget' drives = drives
-  drives_beside listens (Ok outcome.Idle) yield_budget a b yield_budget' drives = drives
-  drives_beside listens (Err e) yield_budget a b yield_budget' drives = inr (lost listens drives)
+  pub drives_beside : (was_asked : Bool → Type 0) → was_asked false → (listens : Bool) (r : Result Outcome NoMemory) (yield_budget : YieldBudget) (a b : At M T H G) (yield_budget' : YieldBudget) →
+      DrivesTo says course c listens 1 r yield_budget a b yield_budget' → StepsBeside says course c was_asked listens r yield_budget a b yield_budget'
+  drives_beside was_asked asks listens (Ok o) yield_budget a b yield_budget' drives = (false, (asks, drives))
+  drives_beside was_asked asks listens (Err e) yield_budget a b yield_budget' drives = inr (lost listens drives)
     where
       lost : (hears : Bool) → DrivesTo says course c hears 1 (Err e) yield_budget a b yield_budget' → HasLost says course c 1 a b
       lost true q = q.0
@@ -429,18 +428,35 @@ all_stays a s p ls store turn trace =
     ap (λ t. record a { store = t; turn = p; trace = ls }) store
     ∙ (ap (λ q. record a { turn = q; trace = ls }) turn ∙ ap (λ ks. record a { trace = ks }) trace)
 
+pub as_before : {M T H G : Type 0} (run run' : RunConcurrent) (m : M) (s t : Store T H G) (before after : List Label) → IsRunAsBefore run s before run' t after →
+    (at run' m t after ≡ at run m s before) × (run'.yield_budget ≡ run.yield_budget)
+as_before run run' m s t before after same = (
+  ap (λ (r : RunConcurrent). at r m t after) same.0 ∙ (ap (λ q. at run m q after) same.1.0 ∙ ap (λ (ls : List Label). at run m s ls) same.1.1),
+  ap (λ (r : RunConcurrent). r.yield_budget) same.0,
+)
+
 -- ---- What was asked
 
 -- at another turn nothing is
-pub asked_else : {M B : Type 0} (polled : ℕ → M → B → B → Type 0) (turns : M → B → B → Type 0) (q : Turn) (s : Core) (m : M) (b : B) → (q ≡ turn.Main → ⊥) →
-    ((n : ℕ) → q ≡ turn.Futures n → ⊥) → HasAskedAt polled turns q s m b b
-asked_else polled turns turn.Main s m b main polls = absurd (main refl)
-asked_else polled turns (turn.Futures n) s m b main polls = absurd (polls n refl)
-asked_else polled turns (turn.Take ended) s m b main polls = refl
-asked_else polled turns (turn.Run n) s m b main polls = refl
-asked_else polled turns turn.Over s m b main polls = refl
+pub asked_else : {M B : Type 0} (polled : ℕ → (running found : Bool) → M → B → B → Type 0) (turns : M → B → B → Type 0) (q : Turn) (s : Core) (m : M) (b : B) → (q ≡ turn.Main → ⊥) →
+    ((n : ℕ) → q ≡ turn.Futures n → ⊥) → (found : Bool) → HasAskedAt polled turns q s m b b found
+asked_else polled turns turn.Main s m b main polls found = absurd (main refl)
+asked_else polled turns (turn.Futures n) s m b main polls found = absurd (polls n refl)
+asked_else polled turns (turn.Take ended) s m b main polls found = refl
+asked_else polled turns (turn.Run n) s m b main polls found = refl
+asked_else polled turns turn.Over s m b main polls found = refl
 
--- it stays so whatever comes of the step
-pub asked_still : {A E : Type 0} (P : Type 0) (r : Result A E) → P → OnOk r P
-asked_still P (Ok a) p = p
-asked_still P (Err e) p = tt
+-- at main's turn this is
+pub asked_main : {M B : Type 0} (polled : ℕ → (running found : Bool) → M → B → B → Type 0) (turns : M → B → B → Type 0) (q : Turn) (s : Core) (m : M) (a b : B) → q ≡ turn.Main → turns m a b →
+    (found : Bool) → HasAskedAt polled turns q s m a b found
+asked_main polled turns q s m a b at asks found = subst (λ (u : Turn). HasAskedAt polled turns u s m a b found) (sym at) asks
+
+-- a handle is found of a running work alone
+pub none_found : (number : ℕ) (running : Bool) (o : Option SpawnHandle) (s : StateView) → running ≡ false → IfSome o (λ work. IsFound number running work s) → is_some o ≡ false
+none_found number running None s still found = refl
+none_found number running (Some work) s still found = absurd (let is = found.1.1 in cc)
+
+pub not_running : (p : Phase) → (p ≡ phase.Running → ⊥) → is_running p ≡ false
+not_running phase.Running never = absurd (never refl)
+not_running phase.AbortRequested never = refl
+not_running phase.Complete never = refl

@@ -5,7 +5,7 @@ use Rattle.ops_state.specs.declared.error.TaskError.{TaskError}
 use Rattle.ops_state.specs.declared.error.TaskError.TheVariants as task_error
 use Rattle.std.proofs.Common.{ap, ap₂, arith, drop, inl, inr, length-append, refl, subst, sym, ◌∙◌}
 use Rattle.std.proofs.lemmas.List.{append_cancel_left}
-use Rattle.std.specs.Prelude.{Bool, Err, List, None, Ok, Option, Result, Some, [], false, is_some, length, true, ℕ, ◌+◌, ◌<◌, ◌∷◌, ◌≡◌, ◌≤◌, ◌^◌}
+use Rattle.std.specs.Prelude.{Bool, Err, List, None, Ok, Option, Result, Some, [], false, is_some, length, true, ℕ, ◌+◌, ◌<◌, ◌∷◌, ◌≡◌, ◌≤◌, ◌^◌, ◌⊎◌}
 use Rattle.task_group.specs.Listeners.{Listeners, ToldListeners}
 use Rattle.run_trace.specs.YieldBudget.{since_driven}
 use Rattle.task_loop.proofs.DoesLemmas.{others_shown}
@@ -18,7 +18,7 @@ use Rattle.task_loop.proofs.RanLemmas.{nothing_ran, ran_computed, ran_more, ran_
 use Rattle.task_loop.proofs.StartLemmas.{trapped_hosts}
 use Rattle.task_loop.proofs.TakenLemmas.{stands_adds}
 use Rattle.task_loop.proofs.ToldLemmas.{asked_computed, groups_computed}
-use Rattle.task_loop.specs.HasRun.{At, DrivesTo, FailsTurn, GoesTo, HasDriven, HasFailed, HasGone, HasLost, HasPolled, HasStopped, HasTurned, IsLost, IsStopped, Keeps, LacksTurn, MayRun, MayTurn, PollsTo, RanTo, at, numbers, setting, state}
+use Rattle.task_loop.specs.HasRun.{At, DrivesTo, FailsTurn, GoesTo, HasDriven, HasFailed, HasGone, HasLost, HasPolled, HasStopped, HasTurned, IsLost, IsStopped, Keeps, LacksTurn, MayRun, MayTurn, MayWant, PollsTo, RanTo, at, may_change, numbers, setting, state}
 use Rattle.task_loop.specs.Hooked.{StopsTurn, hook_failed}
 use Rattle.task_loop.specs.YieldBudgets.{LeavesYieldBudget}
 use Rattle.task_loop.specs.Ran.{Ran}
@@ -47,11 +47,12 @@ use Rattle.store_notices.specs.Moves.{finishes}
 use Rattle.core_primitives.specs.Groups.{IsAsked, asked}
 use Rattle.task_store.specs.Hosts.{HoldsHosts, held_by}
 use Rattle.task_store.specs.declared.store.Store.{Store}
-use Rattle.ops_turns.proofs.DriveLemmas.{on_begins, on_out_at, on_rests, was_on, was_on_short}
+use Rattle.ops_turns.proofs.DriveLemmas.{on_begins, on_out_at, on_rests}
 use Rattle.ops_turns.proofs.KeptLemmas.{core_in_order_after}
 use Rattle.ops_turns.proofs.LaterLemmas.{last_by_works}
 use Rattle.ops_turns.proofs.SteppedLemmas.{AddedTo, added_ends, added_more, added_none, added_open, added_over, outcome_told}
-use Rattle.ops_turns.specs.Drive.{Computes, Drives, Drove, IsOn, KeepsOn, StopsShort, WasGoing}
+use Rattle.run_trace.specs.Traced.{Traced}
+use Rattle.ops_turns.specs.Drive.{Computes, Drives, Drove, Going, IsOn, KeepsOn, StopsShort}
 use Rattle.ops_turns.specs.Later.{SameWorks, WorksLast}
 use Rattle.ops_turns.specs.StepResult.{Added, AddedOrNone, is_made, turn_of}
 use Rattle.ops_turns.specs.Turn.{IsAtTurn, PendsIn, Turns, is_open, runs_in, setting_of, state_at}
@@ -241,37 +242,47 @@ module _ {M T H G : Type 0} (says : Says M) (course : H → HostDef) (c : Compon
       }
 
     -- it was out of memory
-    lost_by : (steps : ℕ) (last : State) (main : M) (between : Listeners) (k : M) (after : List Label) (l : Listeners) → Ran says.does x s a.main a.trace a.store.listeners last main after between → WasGoing x s a.trace after steps →
-        (is_main_turn last.turn ≡ false → k ≡ main) → (is_main_turn last.turn ≡ false → l ≡ between) → TellsSome between l → (tracked : List ℕ) → (is_main_turn last.turn ≡ false → tracked ≡ last.core.groups) → IsLost says course c steps a k after l tracked
-    lost_by steps last main between k after l ran was kept untold told tracked groups =
-        let same : was.going.added ≡ ran.added = append_cancel_left a.trace was.going.added ran.added (sym was.going.trace ∙ ran.trace) in
-        let short : length was.going.added ≤ steps = let e = was.going.count in let f = was.few in omega (arith, e, f) in
+    lost_by : (steps room : ℕ) (last : State) (main : M) (between : Listeners) (k : M) (after : List Label) (l : Listeners) → Ran says.does x s a.main a.trace a.store.listeners last main after between → (labels : ℕ) → Going x s a.trace last after labels → labels < steps →
+        (room ≤ labels) ⊎ MayWant c last.turn last.core → (left : StateView) → (may_change c last.turn last.core ≡ false → left.core ≡ last.core) →
+        (is_main_turn last.turn ≡ false → k ≡ main) → (is_main_turn last.turn ≡ false → l ≡ between) → TellsSome between l → (is_main_turn last.turn ≡ false → left.tags.tracked ≡ last.core.groups) → IsLost says course c steps room a k after l left
+    lost_by steps room last main between k after l ran labels going more wants left image kept untold told groups =
+        let same : going.added ≡ ran.added = append_cancel_left a.trace going.added ran.added (sym going.trace ∙ ran.trace) in
+        let count : length ran.added ≡ labels = ap (λ (ls : List Label). length ls) (sym same) ∙ going.count in
         record {
           last = last;
           main = main;
           between = between;
           ran = ran;
-          few = subst (λ (ls : List Label). length ls ≤ steps) same short;
-          going_on = subst (λ (ls : List Label). last_outcome ls ≡ None) same was.going.going_on;
+          few = omega (arith, count, more);
+          going_on = subst (λ (ls : List Label). last_outcome ls ≡ None) same going.going_on;
+          wants = elim wants [
+            | inl short ↦ inl (omega (arith, count, short))
+            | inr wanted ↦ inr wanted
+          ];
+          image = image;
           same = kept;
           untold = untold;
           told = told;
           groups = groups;
         }
 
-    lost : (v : At M T H G) (steps : ℕ) → n ≤ steps → LacksTurn says course c u v → IsLost says course c steps a v.main v.trace v.store.listeners v.store.state.tags.tracked
-    lost v steps few lacks =
-        lost_by steps (state says course c u) u.main u.store.listeners v.main v.trace v.store.listeners
-        (subst (λ (ls : List Label). Ran says.does x s a.main a.trace a.store.listeners (state says course c u) u.main ls u.store.listeners) (sym lacks.trace) come.ran)
-        (was_on x s a.trace (numbers says course c a) u.turn (says.part u.main) u.store.state u.trace v.trace n steps come.on few lacks.trace)
-        lacks.main lacks.untold lacks.told v.store.state.tags.tracked (λ other. lacks.groups other ∙ come.asked)
+    -- there is no room for the label of the next turn
+    pub come_full : (steps room : ℕ) → n < steps → room ≤ n → IsLost says course c steps room a u.main u.trace u.store.listeners u.store.state
+    come_full steps room few short =
+        lost_by steps room (state says course c u) u.main u.store.listeners u.main u.trace u.store.listeners come.ran
+        n come.on.going few (inl short) u.store.state (λ other. refl) (λ other. refl) (λ other. refl) (tells_none _ _ refl) (λ other. come.asked)
 
-    pub come_short : (steps : ℕ) (after : List Label) → StopsShort c u.turn u.store.state u.trace n after steps → (tracked : List ℕ) → tracked ≡ u.store.state.tags.tracked → IsLost says course c steps a u.main after u.store.listeners tracked
-    come_short steps after short tracked same =
-        lost_by steps (state_at short.last.core (says.part u.main) u.turn) u.main u.store.listeners u.main after u.store.listeners
-        (ran_computed says.does x s a.main a.trace a.store.listeners says.part u.turn u.main u.store.state u.trace u.store.listeners short.last n after short.labels come.ran short.computes short.still)
-        (was_on_short x s a.trace (numbers says course c a) u.turn (says.part u.main) u.store.state u.trace after n steps come.on short) (λ other. refl) (λ other. refl) (tells_none _ _ refl) tracked
-        (λ other. same ∙ (come.asked ∙ sym (groups_computed c u.store.state u.trace n short.last after short.labels x refl u.turn short.computes short.still)))
+    -- nor for that of an op on registers and memory cells
+    pub come_short : (steps room : ℕ) (mid : Traced) → mid.labels ≡ u.trace → room ≤ mid.spare + n → (w : StateView) (after : Traced) → StopsShort c u.turn u.store.state mid n w after steps → w.tags.tracked ≡ u.store.state.tags.tracked → IsLost says course c steps room a u.main after.labels u.store.listeners w
+    come_short steps room mid here spare w after short same =
+        let on = subst (λ (ls : List Label). KeepsOn c u.turn u.store.state ls n w after.labels short.labels) here short.on in
+        let computes = subst (λ (ls : List Label). Computes c u.turn u.store.state ls n w after.labels short.labels) here short.computes in
+        let few = short.few in
+        let most = short.room in
+        lost_by steps room (state_at w.core (says.part u.main) u.turn) u.main u.store.listeners u.main after.labels u.store.listeners
+        (ran_computed says.does x s a.main a.trace a.store.listeners says.part u.turn u.main u.store.state u.trace u.store.listeners w n after.labels short.labels come.ran computes short.still)
+        short.labels (on x refl s a.trace (numbers says course c a) (says.part u.main) come.on).going few (inl (omega (arith, most, spare))) w (λ other. refl) (λ other. refl) (λ other. refl) (tells_none _ _ refl)
+        (λ other. same ∙ (come.asked ∙ sym (groups_computed c u.store.state u.trace n w after.labels short.labels x refl u.turn computes short.still)))
 
     -- in the turns before the hook answered no error, and it failed in this one
     stopped : (v : At M T H G) (steps : ℕ) → n < steps → FailsTurn says course c u v → HasStopped says course c steps a v.main v.trace v.store.state v.store.listeners
@@ -320,8 +331,12 @@ module _ {M T H G : Type 0} (says : Says M) (course : H → HostDef) (c : Compon
         }
 
     -- the turns stop before the run does, as it is out of memory
-    pub come_lost : (v : At M T H G) (steps : ℕ) → n < steps → LacksTurn says course c u v → IsLost says course c steps a v.main v.trace v.store.listeners v.store.state.tags.tracked
-    come_lost v steps room lacks = lost v steps (omega (arith, room)) lacks
+    pub come_lost : (v : At M T H G) (steps room : ℕ) → n < steps → LacksTurn says course c u v → IsLost says course c steps room a v.main v.trace v.store.listeners v.store.state
+    come_lost v steps room few lacks =
+        lost_by steps room (state says course c u) u.main u.store.listeners v.main v.trace v.store.listeners
+        (subst (λ (ls : List Label). Ran says.does x s a.main a.trace a.store.listeners (state says course c u) u.main ls u.store.listeners) (sym lacks.trace) come.ran)
+        n (subst (λ (ls : List Label). Going x s a.trace (state says course c u) ls n) (sym lacks.trace) come.on.going) few
+        (inr lacks.wants) v.store.state lacks.image lacks.main lacks.untold lacks.told (λ other. lacks.groups other ∙ come.asked)
 
     -- or as the hook failed
     pub come_stopped : (v : At M T H G) (steps : ℕ) → n < steps → FailsTurn says course c u v → IsStopped says course c steps a v
@@ -340,8 +355,8 @@ yes_of true not_off = refl
 yes_of false not_off = absurd (not_off refl)
 
 module _ {M T H G : Type 0} (says : Says M) (course : H → HostDef) (c : Component) (a b : At M T H G) (steps : ℕ) where
-  pub has_lost : (m : Store T H G) → IsLost says course c steps a b.main b.trace m.listeners m.state.tags.tracked → ToldListeners (finishes m.state.tags.tracked) m.listeners b.store.listeners → b.store.state.core.trapped ≡ true → HasLost says course c steps a b
-  has_lost m lost told trapped = record { listeners = m.listeners; lost = lost; tracked = m.state.tags.tracked; finishes = told; trapped = trapped }
+  pub has_lost : (room : ℕ) (m : Store T H G) → IsLost says course c steps room a b.main b.trace m.listeners m.state → ToldListeners (finishes m.state.tags.tracked) m.listeners b.store.listeners → b.store.state ≡ asked (on_core set_trapped m.state) → HasLost says course c steps a b
+  has_lost room m lost told trapped = record { listeners = m.listeners; left = m.state; room = room; lost = lost; finishes = told; trapped = trapped }
 
   pub has_failed : (m : Store T H G) → b.store ≡ record m { state = asked (on_core set_trapped m.state); listeners = b.store.listeners } →
       HasStopped says course c steps a b.main b.trace m.state m.listeners → ToldListeners (finishes m.state.tags.tracked) m.listeners b.store.listeners →

@@ -3,6 +3,8 @@ use Rattle.std.proofs.Common.{ap, arith, inl, inr, refl, subst, sym, ◌∙◌}
 use Rattle.laws_order.specs.Cells.{Runs, StaysWork, Takes}
 use Rattle.store_works.specs.Course.{one_fewer}
 use Rattle.store_works.specs.KeptWorks.{HeldWork}
+use Rattle.ops_dispatch.specs.Fits.{calls_host}
+use Rattle.ops_dispatch.specs.Makes.{takes_memory}
 use Rattle.ops_dispatch.specs.Polls.{polled_host}
 use Rattle.std.specs.Option.{option_map}
 use Rattle.std.specs.Prelude.{[], Bool, None, Option, Some, cond, suc, true, zero, ℕ, ◌+◌, ◌==◌, ◌≡◌}
@@ -132,3 +134,15 @@ module _ (answer : HostPoll) (c : Component) (n : ℕ) (s t : StateView) (made :
           (unmade (subst (λ (o : Option (TableId HostTaskKey)). WorkMade answer (host_polled c n s.core) o s t) e polls))
       by (Some id) e = made_held id right (subst (λ (o : Option (TableId HostTaskKey)). WorkMade answer (host_polled c n s.core) o s t) e polls)
           (λ i. is i ∙ ap (λ (o : Option (TableId HostTaskKey)). held_after_call (option_map (λ id. work_of t id) o) (option_map one_fewer (host_polled c n s.core)) left i) e)
+
+-- a call of a host may take memory
+pub calls_takes : (o : Op) → calls_host o ≡ true → takes_memory o ≡ true
+calls_takes (op.Call (call_op.CallHost r q h)) calls = refl
+calls_takes (op.Call (call_op.CallSyncHost r h)) calls = refl
+calls_takes (op.Call (call_op.Call r q e xs)) calls = absurd (cc)
+calls_takes (op.Call (call_op.CallSync r e xs)) calls = absurd (cc)
+calls_takes (op.Call _) calls = absurd (cc)
+calls_takes (op.Data o) calls = absurd (cc)
+calls_takes (op.Task o) calls = absurd (cc)
+calls_takes (op.Set o) calls = absurd (cc)
+calls_takes (op.Thread o) calls = absurd (cc)

@@ -99,7 +99,7 @@ module _ {M T H G : Type 0} (says : Says M) (course : H → HostDef) (c : Compon
 
   -- it was out of memory, and main may have told some notices
   pub lacks_main : (m : M) (s : Store T H G) (n : M) (t : Store T H G) → TellsSome s.listeners t.listeners → (before after : List Label) → after ≡ before → (idle : Bool) → LacksTurn says course c (at_main idle m s before) (at_main idle n t after)
-  lacks_main m s n t told before after same idle = record { trace = same; main = λ other. absurd (cc); untold = λ other. absurd (cc); told = told; groups = λ other. absurd (cc) }
+  lacks_main m s n t told before after same idle = record { trace = same; wants = tt; image = λ other. absurd (cc); main = λ other. absurd (cc); untold = λ other. absurd (cc); told = told; groups = λ other. absurd (cc) }
 
   -- those of a step that was done are such
   pub stepped_tells : (q : MainStep) (m : M) (s : Store T H G) (n : M) (t : Store T H G) → HasStepResult says course c q m s n t → TellsSome s.listeners t.listeners

@@ -33,7 +33,7 @@ use Rattle.core_primitives.specs.StateView.{StateView}
 
 -- ---- What main did
 
-last_same : (ls : List Label) (k l : Label) → ls ++ k ∷ [] ≡ ls ++ l ∷ [] → k ≡ l
+pub last_same : (ls : List Label) (k l : Label) → ls ++ k ∷ [] ≡ ls ++ l ∷ [] → k ≡ l
 last_same ls k l e = let same = append_cancel_left ls (k ∷ []) (l ∷ []) e in cc
 
 data_shown : (l : Label) → is_data l ≡ true → None ≡ step_shown l

@@ -1,15 +1,15 @@
 -- The turn in which an entry is taken.
-use Rattle.std.proofs.Common.{refl, subst, sym, ◌≡◌}
-use Rattle.std.specs.Prelude.{Bool, List, None, Option, Some, true, ℕ}
+use Rattle.std.proofs.Common.{ap, inl, refl, subst, sym, ◌≡◌}
+use Rattle.std.specs.Prelude.{Bool, List, None, Option, Some, false, true, ℕ, ◌⊎◌}
 use Rattle.task_loop.proofs.DoesLemmas.{still_taken}
 use Rattle.task_loop.proofs.HoldLemmas.{held_taken}
 use Rattle.task_loop.proofs.HookLemmas.{stops_after}
 use Rattle.task_loop.proofs.KnowsLemmas.{by_take}
 use Rattle.task_loop.proofs.LackLemmas.{tells_none}
 use Rattle.task_loop.proofs.TakenLemmas.{taken_running, taken_told}
-use Rattle.task_loop.specs.HasRun.{At, FailsTurn, HasTurned, MayTurn, TurnsTo}
+use Rattle.task_loop.specs.HasRun.{At, FailsTurn, HasNoRoom, HasTurned, LacksTurn, MayTurn, MayWant, TurnsTo, may_change}
 use Rattle.task_loop.specs.Says.{Says}
-use Rattle.task_loop.specs.Threads.{FailsTold, TakesTo, ToldBeside}
+use Rattle.task_loop.specs.Threads.{FailsTold, LacksStart, LacksThread, TakesTo, ToldBeside}
 use Rattle.machine_data.specs.Core.{Main}
 use Rattle.machine_data.specs.declared.component.Component.{Component}
 use Rattle.machine_data.specs.declared.component.HostDef.{HostDef}
@@ -21,8 +21,8 @@ use Rattle.machine_rules.specs.Stalled.{Setting}
 use Rattle.task_store.specs.Hosts.{HoldsHosts, held_by}
 use Rattle.task_store.specs.declared.store.Store.{Store}
 use Rattle.ops_turns.specs.Later.{WorksLast}
-use Rattle.ops_turns.proofs.SteppedLemmas.{made_some, none_as}
-use Rattle.ops_turns.specs.StepResult.{AddedOrNone, is_made}
+use Rattle.ops_turns.proofs.SteppedLemmas.{made_some, match_then, none_as}
+use Rattle.ops_turns.specs.StepResult.{AddedOrNone, MatchStep, is_made}
 use Rattle.ops_turns.specs.Turn.{PendsIn, CoreInOrder, Turned, TurnedBeside, setting_of}
 use Rattle.ops_turns.specs.declared.made.MadeStep.{MadeStep}
 use Rattle.ops_turns.specs.declared.made.StepResult.{StepResult}
@@ -91,6 +91,9 @@ module _ {M T H G : Type 0} (says : Says M) (course : H → HostDef) (c : Compon
         works = works (Some added.0) added.1.1;
       }
 
+  took_lacks : LacksStart s t before after → LacksTurn says course c (u p) (v p)
+  took_lacks lost = record { trace = lost.trace; wants = lost.wants; image = λ no. absurd (cc); main = λ other. refl; untold = λ other. lost.listeners; told = tells_none _ _ lost.listeners; groups = λ other. lost.tracked }
+
   -- by what the call gives that takes it
   pub took : (k : StepResult) → TakesTo c b ended s k running t before after → TurnsTo says course c k running (u q) (v q)
   took k taken = record {
@@ -103,6 +106,27 @@ module _ {M T H G : Type 0} (says : Says M) (course : H → HostDef) (c : Compon
         let there = subst (λ (w : StepResult). Taken w) (sym e) nothing.0.0 in
         subst (λ (w : Turn). HasTurned says course c k running (u w) (v w)) (sym is)
         (took_ok k there None (there.nothing e).0 nothing.0.1 (λ made. absurd (made_some k made e)) (λ same. nothing.1.0) nothing.1.1);
-    full = λ e. let lost = taken.full e in record { trace = lost.0; main = λ other. refl; untold = λ other. lost.1.0; told = tells_none _ _ lost.1.0; groups = λ other. lost.1.1 };
+    full = λ e. subst (λ (w : Turn). LacksTurn says course c (u w) (v w)) (sym is) (took_lacks (taken.full e));
     failed = λ e. let fails = taken.failed e in subst (λ (w : Turn). FailsTurn says course c (u w) (v w)) (sym is) (took_failed fails.1.0 fails.1.1.0 fails.1.1.1.0 fails.1.1.1.1 fails.0);
   }
+
+-- ---- It is out of memory for the op of a thread
+
+pub lacks_run : {M T H G : Type 0} (says : Says M) (course : H → HostDef) (c : Component) (m : M) (idle : Bool) (q : Turn) (n : ℕ) → q ≡ turn.Run n → (s t : Store T H G) (before after : List Label) → LacksThread c n s t before after
+    → LacksTurn says course c (record { turn = q; idle = idle; main = m; store = s; trace = before }) (record { turn = q; idle = idle; main = m; store = t; trace = after })
+lacks_run says course c m idle q n is s t before after lost = record {
+  trace = lost.trace;
+  wants = subst (λ (w : Turn). MayWant c w s.state.core) (sym is) lost.wants;
+  image = λ kept. ap (λ (v : StateView). v.core) (lost.same (subst (λ (w : Turn). may_change c w s.state.core ≡ false) is kept));
+  main = λ other. refl;
+  untold = λ other. lost.listeners;
+  told = tells_none _ _ lost.listeners;
+  groups = λ other. lost.tracked;
+}
+
+-- ---- What a turn gives for whose label there is room
+
+pub gives : {M T H G : Type 0} (says : Says M) (course : H → HostDef) (c : Component) (q : StepResult) (running room : ℕ) (a b : At M T H G) (mid : List Label) → mid ≡ a.trace → TurnsTo says course c q running (record a { trace = mid }) b
+    → MatchStep (HasTurned says course c q running a b) (HasTurned says course c q running a b) (LacksTurn says course c a b ⊎ HasNoRoom says course c room a b) (FailsTurn says course c a b) q
+gives says course c q running room a b mid same turned =
+    match_then q (λ e h. h) (λ e h. h) (λ h. inl h) (λ h. h) (subst (λ (ls : List Label). TurnsTo says course c q running (record a { trace = ls }) b) same turned)

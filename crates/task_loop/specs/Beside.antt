@@ -53,16 +53,19 @@ abbrev pub HasFound : {M : Type 0} → Says M → Option ℕ → (m n : M) → S
 HasFound says None m n s = n ≡ m
 HasFound says (Some k) m n s = HasPassed says k m n s
 
--- what was done where this work is polled next; nothing is where none is
-abbrev pub HasAskedNext : {M B : Type 0} → (ℕ → M → B → B → Type 0) → Option ℕ → M → (a b : B) → Type 0
-HasAskedNext polled None m a b = b ≡ a
-HasAskedNext polled (Some i) m a b = polled i m a b
+-- What was done where this work is polled next, which runs or doesn't for all that the run itself has done, and whether it was found aborted;
+-- nothing is where none is.
+abbrev pub HasAskedNext : {M B : Type 0} → (ℕ → (running found : Bool) → M → B → B → Type 0) → Core → Option ℕ → M → (a b : B) →
+    (found : Bool) → Type 0
+HasAskedNext polled s None m a b found = b ≡ a
+HasAskedNext polled s (Some i) m a b found = polled i (is_running (phase_of i s)) found m a b
 
 -- what was done in a step at this turn: where the next work is polled, at main's turn, and nothing at another
-abbrev pub HasAskedAt : {M B : Type 0} → (ℕ → M → B → B → Type 0) → (M → B → B → Type 0) → Turn → Core → M → (a b : B) → Type 0
-HasAskedAt polled turned turn.Main s m a b = turned m a b
-HasAskedAt polled turned (turn.Futures n) s m a b = HasAskedNext polled (next_polled n s) m a b
-HasAskedAt polled turned _ s m a b = b ≡ a
+abbrev pub HasAskedAt : {M B : Type 0} → (ℕ → (running found : Bool) → M → B → B → Type 0) → (M → B → B → Type 0) → Turn → Core → M →
+    (a b : B) → (found : Bool) → Type 0
+HasAskedAt polled turned turn.Main s m a b found = turned m a b
+HasAskedAt polled turned (turn.Futures n) s m a b found = HasAskedNext polled s (next_polled n s) m a b found
+HasAskedAt polled turned _ s m a b found = b ≡ a
 
 -- ---- A work that another thread has aborted
 
@@ -99,6 +102,10 @@ MetAbort course c polled old p before new q after true =
     × (after ≡ before ++ label.Loop (loop_label.FutureAborted work.number) ∷ [])))
 MetAbort course c polled old p before new q after false = (new ≡ old) × ((q ≡ p) × (after ≡ before))
 
+-- It is out of memory, and nothing is changed.
+abbrev pub IsRunAsBefore : {T H G : Type 0} → RunConcurrent → Store T H G → List Label → RunConcurrent → Store T H G → List Label → Type 0
+IsRunAsBefore run s before run' t after = (run' ≡ run) × ((t ≡ s) × (after ≡ before))
+
 abbrev pub polled_label : Bool → ℕ → Label
 polled_label found i = cond found (label.Loop (loop_label.FutureAborted i)) (label.Loop (loop_label.FuturePends i))
 
@@ -116,14 +123,19 @@ module _ {M T H G : Type 0} (says : Says M) (course : H → HostDef) (c : Compon
     pub few : numbers says course c b ≤ numbers says course c a + 2
     pub listeners : b.store.listeners ≡ a.store.listeners
 
-  -- A step was taken beside other threads: such a one, or one of the machine's own. If it is out of memory, its label isn't shown, or the
-  -- run is lost as that of a drive is.
-  abbrev pub StepsBeside : (listens : Bool) → Result Outcome NoMemory → (yield_budget : YieldBudget) → (a b : At M T H G) → (yield_budget' : YieldBudget) → Type 0
-  StepsBeside listens (Ok outcome.OutOfSteps) yield_budget a b yield_budget' =
-      ((l : Label) × (HasMet l a b × (yield_budget' ≡ yield_budget)))
-      ⊎ DrivesTo says course c listens 1 (Ok outcome.OutOfSteps) yield_budget a b yield_budget'
-  StepsBeside listens (Ok o) yield_budget a b yield_budget' = DrivesTo says course c listens 1 (Ok o) yield_budget a b yield_budget'
-  StepsBeside listens (Err e) yield_budget a b yield_budget' = (b.trace ≡ a.trace) ⊎ HasLost says course c 1 a b
+  -- whether a step was one that finds what other threads have done, or one of the machine's own
+  abbrev pub StepsAs : (found listens : Bool) → Outcome → (yield_budget : YieldBudget) → (a b : At M T H G) → (yield_budget' : YieldBudget) → Type 0
+  StepsAs true listens o yield_budget a b yield_budget' =
+      (o ≡ outcome.OutOfSteps) × ((l : Label) × (HasMet l a b × (yield_budget' ≡ yield_budget)))
+  StepsAs false listens o yield_budget a b yield_budget' = DrivesTo says course c listens 1 (Ok o) yield_budget a b yield_budget'
+
+  -- A step was taken beside other threads, of which this was asked by whether it has found what they have done. If it is out of memory, all
+  -- is as before, or the run is lost as that of a drive is.
+  abbrev pub StepsBeside : (was_asked : Bool → Type 0) → (listens : Bool) → Result Outcome NoMemory → (yield_budget : YieldBudget) → (a b : At M T H G) →
+      (yield_budget' : YieldBudget) → Type 0
+  StepsBeside was_asked listens (Ok o) yield_budget a b yield_budget' =
+      (found : Bool) × (was_asked found × StepsAs found listens o yield_budget a b yield_budget')
+  StepsBeside was_asked listens (Err e) yield_budget a b yield_budget' = ((b ≡ a) × (yield_budget' ≡ yield_budget)) ⊎ HasLost says course c 1 a b
 
   -- What a poll of the last round asks: no thread runs, and a live work is next.
   pub record MayPollLast (polled : ℕ) (a : At M T H G) : Type 0 where
@@ -132,11 +144,12 @@ module _ {M T H G : Type 0} (says : Says M) (course : H → HostDef) (c : Compon
     pub number : ℕ
     pub next : next_polled polled a.store.state.core ≡ Some number
 
-  -- It pends, or it was found aborted: then it has ended without a value, and main's turn comes next.
-  pub record HasPolledLast (polled : ℕ) (a b : At M T H G) : Type 0 where
+  -- It pends, or it was found aborted: then it has ended without a value, and main's turn comes next. This was asked of it, by whether it was.
+  pub record HasPolledLast (was_asked : Bool → Type 0) (polled : ℕ) (a b : At M T H G) : Type 0 where
     pub number : ℕ
     pub next : next_polled polled a.store.state.core ≡ Some number
     pub found : Bool
+    pub asked : was_asked found
     pub running : found ≡ true → is_running_spawn number a.store.state.core ≡ true
     pub trace : b.trace ≡ a.trace ++ polled_label found number ∷ []
     pub core : b.store.state.core ≡ cond found (poll_ends number None a.store.state.core) a.store.state.core
@@ -147,11 +160,12 @@ module _ {M T H G : Type 0} (says : Says M) (course : H → HostDef) (c : Compon
 
   -- ---- The same, from what a call has at hand: the run, main, the store and the trace, as they were and as they are
 
-  abbrev pub StepBesideGives : (listens : Bool) → Result Outcome NoMemory → RunConcurrent → M → Store T H G → List Label →
-      RunConcurrent → M → Store T H G → List Label → Type 0
-  StepBesideGives listens r run m s before run' n t after =
-      StepsBeside listens r run.yield_budget (at run m s before) (at run' n t after) run'.yield_budget
+  abbrev pub StepBesideGives : (was_asked : Bool → Type 0) → (listens : Bool) → Result Outcome NoMemory → RunConcurrent → M → Store T H G →
+      List Label → RunConcurrent → M → Store T H G → List Label → Type 0
+  StepBesideGives was_asked listens r run m s before run' n t after =
+      StepsBeside was_asked listens r run.yield_budget (at run m s before) (at run' n t after) run'.yield_budget
 
   -- of a poll of the last round, in which main has no part
-  abbrev pub LastPollGives : (polled : ℕ) → M → RunConcurrent → Store T H G → List Label → RunConcurrent → Store T H G → List Label → Type 0
-  LastPollGives polled m run s before run' t after = HasPolledLast polled (at run m s before) (at run' m t after)
+  abbrev pub LastPollGives : (was_asked : Bool → Type 0) → (polled : ℕ) → M → RunConcurrent → Store T H G → List Label →
+      RunConcurrent → Store T H G → List Label → Type 0
+  LastPollGives was_asked polled m run s before run' t after = HasPolledLast was_asked polled (at run m s before) (at run' m t after)

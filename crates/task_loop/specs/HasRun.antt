@@ -19,7 +19,12 @@ use Rattle.task_loop.specs.declared.run.Halt.TheVariants as halt
 use Rattle.task_loop.specs.declared.run.RunConcurrent.{RunConcurrent}
 use Rattle.task_loop.specs.declared.run.Stop.{Stop}
 use Rattle.task_loop.specs.declared.run.Stop.TheVariants as stop
-use Rattle.machine_data.specs.Core.{State}
+use Rattle.machine_data.specs.Core.{Core, State}
+use Rattle.machine_rules.specs.Scripts.{op_of}
+use Rattle.ops_dispatch.specs.Fits.{calls_host}
+use Rattle.ops_dispatch.specs.Makes.{takes_memory}
+use Rattle.ops_turns.specs.Taken.{StartsNext}
+use Rattle.run_trace.specs.Traced.{Traced}
 use Rattle.machine_data.specs.Write.{set_trapped}
 use Rattle.machine_data.specs.declared.component.Component.{Component}
 use Rattle.machine_data.specs.declared.component.HostDef.{HostDef}
@@ -61,6 +66,20 @@ at run main store trace = record { turn = turn_of run.last; idle = run.trap_on_i
 -- a run at main's turn, with this idle line
 abbrev pub at_main : {M T H G : Type 0} → (idle : Bool) → M → Store T H G → List Label → At M T H G
 at_main idle main store trace = record { turn = turn.Main; idle = idle; main = main; store = store; trace = trace }
+
+-- The step of this turn may want memory: it is main's, a start's, or does an op that may take some.
+abbrev pub MayWant : Component → Turn → Core → Type 0
+MayWant c turn.Main s = Unit {0}
+MayWant c (turn.Take ended) s = StartsNext s
+MayWant c (turn.Run n) s = takes_memory (op_of c n s) ≡ true
+MayWant c _ s = ⊥
+
+-- one that isn't made may change the state all the same: it is main's, takes an entry, or calls a host
+abbrev pub may_change : Component → Turn → Core → Bool
+may_change c turn.Main s = true
+may_change c (turn.Take ended) s = true
+may_change c (turn.Run n) s = calls_host (op_of c n s)
+may_change c _ s = false
 
 -- What stays whatever a call results in.
 pub record Keeps {M T H G : Type 0} (says : Says M) (a b : At M T H G) : Type 0 where
@@ -175,22 +194,30 @@ module _ {M T H G : Type 0} (says : Says M) (course : H → HostDef) (c : Compon
     pub knows : says.knows b.main b.store.state
     pub works : HoldsHosts course b.store
 
-  -- It is out of memory in the turn: no label was added. Only main may have done something then, and told some notices.
+  -- It is out of memory in the turn, whose step may want some: no label was added. Only main may have done something then, and told some
+  -- notices.
   pub record LacksTurn (a b : At M T H G) : Type 0 where
     pub trace : b.trace ≡ a.trace
+    pub wants : MayWant c a.turn a.store.state.core
+    pub image : may_change c a.turn a.store.state.core ≡ false → b.store.state.core ≡ a.store.state.core
     pub main : is_main_turn a.turn ≡ false → b.main ≡ a.main
     pub untold : is_main_turn a.turn ≡ false → b.store.listeners ≡ a.store.listeners
     pub told : TellsSome a.store.listeners b.store.listeners
     -- the groups that are tracked
     pub groups : is_main_turn a.turn ≡ false → TracksSame a.store.state b.store.state
 
+  -- The trace had no room for the label of the turn, and nothing was done.
+  pub record HasNoRoom (room : ℕ) (a b : At M T H G) : Type 0 where
+    pub none : room ≡ 0
+    pub same : b ≡ a
+
   -- in each case
   abbrev pub TurnsTo : StepResult → (running : ℕ) → (a b : At M T H G) → Type 0
   TurnsTo q running a b = MatchStep (HasTurned q running a b) (HasTurned q running a b) (LacksTurn a b) (FailsTurn a b) q
 
   -- so it is of main's turn, whatever the idle line is
-  abbrev pub MainTurned : StepResult → (m : M) (s : Store T H G) (before : List Label) (n : M) (t : Store T H G) (after : List Label) → Type 0
-  MainTurned q m s before n t after = (idle : Bool) → TurnsTo q 0 (at_main idle m s before) (at_main idle n t after)
+  abbrev pub MainTurned : StepResult → (m : M) (s : Store T H G) (before : Traced) (n : M) (t : Store T H G) (after : Traced) → Type 0
+  MainTurned q m s before n t after = (idle : Bool) → TurnsTo q 0 (at_main idle m s before.labels) (at_main idle n t after.labels)
 
   -- ---- What a call gives
 
@@ -235,27 +262,32 @@ module _ {M T H G : Type 0} (says : Says M) (course : H → HostDef) (c : Compon
 
   -- ---- It is out of memory
 
-  -- A run of at most so many labels was added, up to a turn that isn't made, and the state is lost. Main, the listeners and the groups
-  -- that are tracked are as that run left them, unless the turn is main's: then main may have done something and told some notices.
-  pub record IsLost (steps : ℕ) (a : At M T H G) (n : M) (after : List Label) (listeners : Listeners) (tracked : List ℕ) : Type 0 where
+  -- A run of fewer labels was added, up to a turn that isn't made: the trace has no room for its label, which had so much, or its step
+  -- may want memory. Main, the listeners and the groups that are tracked are as that run left them, unless the turn is main's: then main
+  -- may have done something and told some notices. So is the state, unless that step may change it all the same.
+  pub record IsLost (steps room : ℕ) (a : At M T H G) (n : M) (after : List Label) (listeners : Listeners) (left : StateView) : Type 0 where
     pub last : State
     pub main : M
     pub between : Listeners
     pub ran : Ran says.does (setting a) (state a) a.main a.trace a.store.listeners last main after between
-    pub few : length ran.added ≤ steps
+    pub few : length ran.added < steps
     pub going_on : last_outcome ran.added ≡ None
+    pub wants : (room ≤ length ran.added) ⊎ MayWant c last.turn last.core
+    pub image : may_change c last.turn last.core ≡ false → left.core ≡ last.core
     pub same : is_main_turn last.turn ≡ false → n ≡ main
     pub untold : is_main_turn last.turn ≡ false → listeners ≡ between
     pub told : TellsSome between listeners
-    pub groups : is_main_turn last.turn ≡ false → tracked ≡ last.core.groups
+    pub groups : is_main_turn last.turn ≡ false → left.tags.tracked ≡ last.core.groups
 
   -- So it was. Then the store was trapped, and the groups that were tracked were told that they finish.
   pub record HasLost (steps : ℕ) (a b : At M T H G) : Type 0 where
     pub listeners : Listeners
-    pub tracked : List ℕ
-    pub lost : IsLost steps a b.main b.trace listeners tracked
-    pub finishes : ToldListeners (finishes tracked) listeners b.store.listeners
-    pub trapped : b.store.state.core.trapped ≡ true
+    pub left : StateView
+    -- for so many labels the trace had room
+    pub room : ℕ
+    pub lost : IsLost steps room a b.main b.trace listeners left
+    pub finishes : ToldListeners (finishes left.tags.tracked) listeners b.store.listeners
+    pub trapped : b.store.state ≡ asked (on_core set_trapped left)
 
   -- ---- The hook failed
 
@@ -343,14 +375,18 @@ module _ {M T H G : Type 0} (says : Says M) (course : H → HostDef) (c : Compon
       PollsTo listens steps r run.yield_budget (at run m s before) (at run' n t after) run'.yield_budget
 
   -- of one turn, in which the run is before and after it
-  abbrev pub TurnGives : StepResult → (running : ℕ) → RunConcurrent → M → Store T H G → List Label → M →
-      Store T H G → List Label → Type 0
-  TurnGives r running run m s before n t after = TurnsTo r running (at run m s before) (at run n t after)
+  abbrev pub TurnGives : StepResult → (running : ℕ) → RunConcurrent → M → Store T H G → Traced → M → Store T H G → Traced → Type 0
+  TurnGives r running run m s before n t after =
+      let a = at run m s before.labels in
+      let b = at run n t after.labels in
+      MatchStep (HasTurned r running a b) (HasTurned r running a b) (LacksTurn a b ⊎ HasNoRoom before.spare a b) (FailsTurn a b) r
 
   -- of all that the policy lets be taken
-  abbrev pub TurnsGive : (yields : Bool) → ℕ → Result Stop Halt → RunConcurrent → M → Store T H G → List Label →
-      RunConcurrent → M → Store T H G → List Label → Type 0
+  abbrev pub TurnsGive : (yields : Bool) → ℕ → Result Stop Halt → RunConcurrent → M → Store T H G → Traced →
+      RunConcurrent → M → Store T H G → Traced → Type 0
   TurnsGive yields steps (Ok q) run m s before run' n t after =
-      GoesTo yields steps q run.yield_budget (at run m s before) (at run' n t after) run'.yield_budget
-  TurnsGive yields steps (Err halt.NoMemory) run m s before run' n t after = IsLost steps (at run m s before) n after t.listeners t.state.tags.tracked
-  TurnsGive yields steps (Err halt.HookFailed) run m s before run' n t after = IsStopped steps (at run m s before) (at run' n t after)
+      GoesTo yields steps q run.yield_budget (at run m s before.labels) (at run' n t after.labels) run'.yield_budget
+  TurnsGive yields steps (Err halt.NoMemory) run m s before run' n t after =
+      IsLost steps before.spare (at run m s before.labels) n after.labels t.listeners t.state
+  TurnsGive yields steps (Err halt.HookFailed) run m s before run' n t after =
+      IsStopped steps (at run m s before.labels) (at run' n t after.labels)

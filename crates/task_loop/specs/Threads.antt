@@ -1,9 +1,14 @@
 -- What those parts of a turn result in in which main has no part: a step of the thread that runs, the poll of a work, the taking of an entry.
-use Rattle.std.specs.Prelude.{Bool, List, Some, ℕ, is_some, true, ◌+◌, ◌<◌, ◌^◌, ◌≡◌}
+use Rattle.std.specs.Prelude.{Bool, List, Some, ℕ, false, is_some, true, ◌+◌, ◌<◌, ◌^◌, ◌≡◌}
 use Rattle.task_group.specs.Listeners.{Listeners, errors_of}
 use Rattle.task_loop.specs.Hooked.{TellsInPart}
 use Rattle.task_loop.specs.Told.{RunTold, TellsTurn, current_group, group_running, turn_of}
 use Rattle.machine_data.specs.Core.{Core}
+use Rattle.machine_rules.specs.Scripts.{op_of}
+use Rattle.ops_dispatch.specs.Fits.{calls_host}
+use Rattle.ops_dispatch.specs.Makes.{takes_memory}
+use Rattle.ops_turns.specs.Taken.{StartsNext}
+use Rattle.run_trace.specs.Traced.{Traced}
 use Rattle.machine_data.specs.declared.component.Component.{Component}
 use Rattle.machine_data.specs.declared.component.HostDef.{HostDef}
 use Rattle.machine_data.specs.declared.label.Label.{Label}
@@ -38,8 +43,8 @@ pub record StepsWith {T H G : Type 0} (Keeps : StateView → StateView → Type 
 
 -- before it is told, and after that
 abbrev pub StepsUntold : {T H G : Type 0} → (H → HostDef) → Component → ℕ → Store T H G → StepResult → Store T H G →
-    (before after : List Label) → Type 0
-StepsUntold = StepsWith NamesTold
+    (before after : Traced) → Type 0
+StepsUntold course c n s q t before after = StepsWith NamesTold course c n s q t before.labels after.labels
 
 abbrev pub StepsThread : {T H G : Type 0} → (H → HostDef) → Component → ℕ → Store T H G → StepResult → Store T H G →
     (before after : List Label) → Type 0
@@ -78,15 +83,27 @@ abbrev pub FailsThread : {T H G : Type 0} → (H → HostDef) → Component → 
 FailsThread course c n s t before after =
     FailsTold s.state.core (turn.Run n) t.state s.listeners t.listeners × ((q : StepResult) × StepsThread course c n s q t before after)
 
--- It is out of memory: no label was added, nothing was told, and the same groups are tracked.
-abbrev pub LacksStep : {T H G : Type 0} → (s t : Store T H G) → (before after : List Label) → Type 0
-LacksStep s t before after = (after ≡ before) × ((t.listeners ≡ s.listeners) × TracksSame s.state t.state)
+-- It is out of memory for the op of the thread, which may take some: no label was added, nothing was told, and the same groups are
+-- tracked. If the op calls no host, the state is as before.
+pub record LacksThread {T H G : Type 0} (c : Component) (n : ℕ) (s t : Store T H G) (before after : List Label) : Type 0 where
+  pub trace : after ≡ before
+  pub listeners : t.listeners ≡ s.listeners
+  pub tracked : TracksSame s.state t.state
+  pub wants : takes_memory (op_of c n s.state.core) ≡ true
+  pub same : calls_host (op_of c n s.state.core) ≡ false → t.state ≡ s.state
+
+-- It is out of memory for the start whose entry is next.
+pub record LacksStart {T H G : Type 0} (s t : Store T H G) (before after : List Label) : Type 0 where
+  pub trace : after ≡ before
+  pub listeners : t.listeners ≡ s.listeners
+  pub tracked : TracksSame s.state t.state
+  pub wants : StartsNext s.state.core
 
 -- So it took its step; or it is out of memory; or the hook failed.
 abbrev pub RunsTo : {T H G : Type 0} → (H → HostDef) → Component → ℕ → (s : Store T H G) → StepResult → (running : ℕ) →
     (t : Store T H G) → (before after : List Label) → Type 0
 RunsTo course c n s q running t before after =
-    MatchStep (RanThread course c n s q running t before after) ⊥ (LacksStep s t before after) (FailsThread course c n s t before after) q
+    MatchStep (RanThread course c n s q running t before after) ⊥ (LacksThread c n s t before after) (FailsThread course c n s t before after) q
 
 -- A work was polled, and that was told; or the hook answered an error as it was.
 abbrev pub PollsTold : {T H G : Type 0} → Turn → (running : ℕ) → (s : Store T H G) → StepResult → (t : Store T H G) →
@@ -113,7 +130,7 @@ TakesNothing c b ended s t before after =
 abbrev pub WorkPollsTo : {T H G : Type 0} → Turn → (s : Store T H G) → StepResult → (running : ℕ) → (t : Store T H G) →
     (before after : List Label) → Type 0
 WorkPollsTo p s q running t before after =
-    MatchStep (PollsTold p running s q t before after) ⊥ (LacksStep s t before after) (FailsPoll p s t before after) q
+    MatchStep (PollsTold p running s q t before after) ⊥ ⊥ (FailsPoll p s t before after) q
 
 -- It answered one as the taking of an entry was told.
 abbrev pub FailsTake : {T H G : Type 0} → Component → (trap_on_idle ended : Bool) → (s t : Store T H G) →
@@ -126,5 +143,5 @@ FailsTake c b ended s t before after =
 abbrev pub TakesTo : {T H G : Type 0} → Component → (trap_on_idle ended : Bool) → (s : Store T H G) → StepResult → (running : ℕ) →
     (t : Store T H G) → (before after : List Label) → Type 0
 TakesTo c b ended s q running t before after =
-    MatchStep (TakesTold c b ended running s q t before after) (TakesNothing c b ended s t before after) (LacksStep s t before after)
+    MatchStep (TakesTold c b ended running s q t before after) (TakesNothing c b ended s t before after) (LacksStart s t before after)
     (FailsTake c b ended s t before after) q

@@ -1,6 +1,6 @@
 //! Steps of a run beside other threads, which may abort the works that main has spawned.
-ghost use Rattle.std.specs.Prelude.{◌≡◌, IfOk, IfSome, OnErr, OnOk, ℕ};
-ghost use Rattle.task_loop.specs.Beside.{HasAskedAt, HasAskedNext, HasFound, IsFound, MayMeet, MayPollLast, MetAbort};
+ghost use Rattle.std.specs.Prelude.{◌≡◌, Bool, IfOk, IfSome, OnErr, OnOk, false, is_some, ℕ};
+ghost use Rattle.task_loop.specs.Beside.{HasAskedAt, HasAskedNext, HasFound, IsFound, IsRunAsBefore, MayMeet, MayPollLast, MetAbort};
 ghost use Rattle.task_loop.specs.Beside.{LastPollGives, StepBesideGives};
 ghost use Rattle.machine_rules.specs.Works.{next_polled};
 ghost use Rattle.task_loop.specs.HasRun.{Keeps, MayRun, at};
@@ -23,8 +23,9 @@ pub trait Beside<M: MainTask<T, H, G>, T, H: HostWork, G: TaskGroupHook> {
 
     ghost same: { (b : Self) → keeps b b };
 
-    // What it has done where the work with this number was polled, for this main, and where main's turn was next.
-    ghost polled: { ℕ → M → Self → Self → Type 0 };
+    // What it has done where the work with this number was polled, which runs or doesn't, and was found aborted or wasn't, for this main,
+    // and where main's turn was next.
+    ghost polled: { ℕ → Bool → Bool → M → Self → Self → Type 0 };
 
     ghost turned: { M → Self → Self → Type 0 };
 
@@ -39,22 +40,23 @@ pub trait Beside<M: MainTask<T, H, G>, T, H: HostWork, G: TaskGroupHook> {
     ) -> Result<Option<SpawnHandle>, NoMemory>
         requires { M.says.knows main.now store.now.state }
         ensures keeps { keeps self.old self.new }
-        ensures polled { OnOk result (polled number main.now self.old self.new) }
+        ensures polled { IfOk result (λ found. polled number running (is_some found) main.now self.old self.new) }
         ensures found { IfOk result (λ found. IfSome found (λ work. IsFound number running work store.now.state)) };
 
     /// Main's turn is next. Answers the spawn, counted from 1, if main's op is to abort it, and finds that another thread has done so: then
-    /// main has passed that op. Else main is as before.
+    /// main has passed that op. Else, and if it is out of memory, main is as before.
     fn turns(&mut self, main: &mut M, store: &Store<T, H, G>) -> Result<Option<u32>, NoMemory>
         requires { M.says.knows main.old store.now.state }
         ensures keeps { keeps self.old self.new }
         ensures turned { OnOk result (turned main.old self.old self.new) }
         ensures script { M.says.script main.new ≡ M.says.script main.old }
-        ensures found { IfOk result (λ found. HasFound M.says found main.old main.new store.now.state) };
+        ensures found { IfOk result (λ found. HasFound M.says found main.old main.new store.now.state) }
+        ensures err { OnErr result (main.new ≡ main.old) };
 }
 
 impl RunConcurrent {
     // Asks for the live work that is next past those up to `polled`. If another thread has aborted it, it ends without a value.
-    // Answers whether it has. If it is out of memory for its label, the store is trapped.
+    // Answers whether it has. If it is out of memory, the run, the store and the trace are as before.
     fn meet_abort<
         T,
         H: AccessorTask<T> + FromHost,
@@ -73,11 +75,13 @@ impl RunConcurrent {
         requires may { MayMeet H.course component.now (turn_of self.old.last) store.old }
         requires knows { M.says.knows main.now store.old.state }
         ensures keeps { B.keeps beside.old beside.new }
-        ensures asked { OnOk result (HasAskedNext B.polled (next_polled polled store.old.state.core) main.now beside.old beside.new) }
+        ensures asked { IfOk result (HasAskedNext B.polled store.old.state.core (next_polled polled store.old.state.core) main.now
+            beside.old beside.new) }
         ensures constants_stay { constants store.new ≡ constants store.old }
         ensures met { IfOk result (MetAbort H.course component.now polled
             store.old (turn_of self.old.last) trace.old store.new (turn_of self.new.last) trace.new) }
-        ensures err { OnErr result (trace.new ≡ trace.old) }
+        ensures unmet { IfOk result (λ met. met ≡ false → self.new ≡ self.old) }
+        ensures err { OnErr result (IsRunAsBefore self.old store.old trace.old self.new store.new trace.new) }
         ensures rest { self.new ≡ record self.old { last = self.new.last } }
     {
         // only the contract speaks of `component`
@@ -98,6 +102,9 @@ impl RunConcurrent {
         let Some(work) = found else {
             return Ok(false);
         };
+        let Ok(()) = trace.labels.make_room() else {
+            return Err(NoMemory);
+        };
         let _phase = work.abort(store);
         let mut worked = None;
         // The work was spawned, so no group is told of it.
@@ -106,12 +113,7 @@ impl RunConcurrent {
             label: Label::Loop(LoopLabel::FutureAborted(number)),
             turn: made.turn,
         };
-        let stepped = put(&mut trace.labels, shown);
-        if !is_made(stepped) {
-            store.set_trapped();
-            return Err(NoMemory);
-        }
-        self.last = stepped;
+        self.last = put(&mut trace.labels, shown);
         Ok(true)
     }
 
@@ -119,7 +121,8 @@ impl RunConcurrent {
     /// Before a poll of a work, and at each turn of main, it asks `beside` what those have done. Where a poll finds that they have
     /// aborted a running work that main has spawned, the work ends without a value: that is the step. Where main finds it of the
     /// one that it is to abort, that is the step, and nothing else is changed. Else the step is one that `drive` takes, whose word
-    /// it asks and gives. If it is out of memory, its label isn't added, or what stands is what `drive` leaves then.
+    /// it asks and gives. If it is out of memory, the run, main, the store and the trace are as before, or what stands is what `drive`
+    /// leaves then.
     pub fn step_beside<
         T,
         H: AccessorTask<T> + FromHost,
@@ -137,22 +140,23 @@ impl RunConcurrent {
         requires may { MayRun M.says H.course component.now (at self.old main.old store.old trace.old) }
         ensures keeps { Keeps M.says (at self.old main.old store.old trace.old) (at self.new main.new store.new trace.new) }
         ensures beside { B.keeps beside.old beside.new }
-        ensures asked { OnOk result (HasAskedAt B.polled B.turned (turn_of self.old.last) store.old.state.core main.old
-            beside.old beside.new) }
-        ensures steps { StepBesideGives M.says H.course component.now G.listens result
-            self.old main.old store.old trace.old self.new main.new store.new trace.new }
+        ensures steps { StepBesideGives M.says H.course component.now
+            (HasAskedAt B.polled B.turned (turn_of self.old.last) store.old.state.core main.old beside.old beside.new)
+            G.listens result self.old main.old store.old trace.old self.new main.new store.new trace.new }
     {
         match turn_of(self.last) {
             Turn::Main => {
+                // Room comes first, so that main passes no op whose label isn't added.
+                let Ok(()) = trace.labels.make_room() else {
+                    return Err(NoMemory);
+                };
                 let Ok(found) = beside.turns(main, store) else {
                     return Err(NoMemory);
                 };
                 match found {
                     Some(spawn) => {
                         let label = Label::Main(MainLabel::Abort(Phase::AbortRequested, spawn));
-                        let Ok(()) = trace.labels.push(label) else {
-                            return Err(NoMemory);
-                        };
+                        trace.labels.push(label);
                         Ok(Outcome::OutOfSteps)
                     }
                     None => self.drive(component, store, main, 1, trace),
@@ -173,7 +177,7 @@ impl RunConcurrent {
 
     /// In the last round of such a run, which comes where nothing can go on, polls the live spawned work that is next past those up to
     /// `polled` once more: it pends, or `beside` finds that another thread has aborted it. Then it ends without a value, and main's
-    /// turn comes next. If it is out of memory, no label is added.
+    /// turn comes next. If it is out of memory, the run, the store and the trace are as before. The yield budget stays either way.
     pub fn poll_last<
         T,
         H: AccessorTask<T> + FromHost,
@@ -192,10 +196,11 @@ impl RunConcurrent {
         requires may { MayPollLast M.says H.course component.now polled (at self.old main.now store.old trace.old) }
         ensures keeps { Keeps M.says (at self.old main.now store.old trace.old) (at self.new main.now store.new trace.new) }
         ensures beside { B.keeps beside.old beside.new }
-        ensures asked { OnOk result (HasAskedNext B.polled (next_polled polled store.old.state.core) main.now beside.old beside.new) }
-        ensures polls { OnOk result (LastPollGives M.says H.course component.now polled main.now
-            self.old store.old trace.old self.new store.new trace.new) }
-        ensures err { OnErr result (trace.new ≡ trace.old) }
+        ensures polls { OnOk result (LastPollGives M.says H.course component.now
+            (HasAskedNext B.polled store.old.state.core (next_polled polled store.old.state.core) main.now beside.old beside.new)
+            polled main.now self.old store.old trace.old self.new store.new trace.new) }
+        ensures err { OnErr result (IsRunAsBefore self.old store.old trace.old self.new store.new trace.new) }
+        ensures rest { self.new ≡ record self.old { last = self.new.last } }
     {
         let Ok(met) = self.meet_abort(component, store, main, polled, beside, trace) else {
             return Err(NoMemory);
@@ -207,11 +212,13 @@ impl RunConcurrent {
         let Some(next) = store.state.next_polled(polled) else {
             unreachable!()
         };
-        let number = store.state.work_number(next);
-        let pends = Label::Loop(LoopLabel::FuturePends(number));
-        let Ok(()) = trace.labels.push(pends) else {
+        let Ok(()) = trace.labels.make_room() else {
             return Err(NoMemory);
         };
+        let number = store.state.work_number(next);
+        trace
+            .labels
+            .push(Label::Loop(LoopLabel::FuturePends(number)));
         Ok(())
     }
 

@@ -1,15 +1,14 @@
-ghost use Rattle.std.specs.Prelude.{◌≡◌, IfErr, IfOk, OnOk, false, true};
+ghost use Rattle.std.specs.Prelude.{◌≡◌, ◌+◌, ◌<◌, ◌≤◌, IfErr, IfOk, OnOk, false, true};
 ghost use Rattle.laws_labels.specs.Own.{next_mark};
 ghost use Rattle.ops_dispatch.specs.Fits.{calls_host};
 ghost use Rattle.run_trace.specs.YieldBudget.{unless_yielded};
 ghost use Rattle.task_loop.specs.HasRun.{DriveGives, Keeps, MainTurned, MayRun, MayStep, MayTurn, StepsTo, TurnGives, TurnsGive, at};
 ghost use Rattle.task_loop.specs.Constants.{constants};
-ghost use Rattle.task_loop.specs.Threads.{RunsThread, RunsTo, StepsUntold, TakesTo, WorkPollsTo};
+ghost use Rattle.task_loop.specs.Threads.{LacksThread, RunsThread, RunsTo, StepsUntold, TakesTo, WorkPollsTo};
 ghost use Rattle.task_loop.specs.Told.{group_running};
 ghost use Rattle.ops_guests.specs.Works.{KeepsWorks};
 ghost use Rattle.machine_rules.specs.Scripts.{op_of};
 ghost use Rattle.task_store.specs.Hosts.{HoldsHosts};
-ghost use Rattle.ops_turns.specs.Later.{TracksSame};
 ghost use Rattle.ops_turns.specs.StepResult.{IsFull, is_made, turn_of};
 ghost use Rattle.ops_turns.specs.Turn.{IsAtTurn};
 ghost use Rattle.core_primitives.specs.Groups.{IsAsked};
@@ -107,8 +106,10 @@ fn step_main<T, H: HostWork, G: TaskGroupHook, M: MainTask<T, H, G>>(
     trace: &mut PackedLabels,
 ) -> StepResult
     requires may { MayStep M.says H.course component.now main.old store.old }
+    requires room { 0 < trace.old.spare }
     ensures constants_stay { constants store.new ≡ constants store.old }
     ensures script { M.says.script main.new ≡ M.says.script main.old }
+    ensures spare { trace.old.spare ≤ trace.new.spare + 1 }
     ensures turned { MainTurned M.says H.course component.now result main.old store.old trace.old main.new store.new trace.new }
 {
     let step = match ask_main(component, store, main) {
@@ -136,11 +137,13 @@ fn call_host<T, H: AccessorTask<T> + FromHost, G: TaskGroupHook>(
 ) -> StepResult
     requires runs { RunsThread H.course component.now thread store.old }
     requires calls { calls_host (op_of component.now thread store.old.state.core) ≡ true }
+    requires room { 0 < trace.old.spare }
     ensures constants_stay { constants store.new ≡ constants store.old }
     ensures steps { is_made result ≡ true → StepsUntold H.course component.now thread store.old result store.new trace.old trace.new }
     ensures listeners { store.new.listeners ≡ store.old.listeners }
-    ensures tracked { TracksSame store.old.state store.new.state }
-    ensures full { is_made result ≡ false → IsFull result trace.old trace.new }
+    ensures full { is_made result ≡ false → IsFull result trace.old.labels trace.new.labels }
+    ensures lacks { is_made result ≡ false → LacksThread component.now thread store.old store.new trace.old.labels trace.new.labels }
+    ensures spare { trace.old.spare ≤ trace.new.spare + 1 }
 {
     // The host's work is polled before its call is done: what the call results in is what it answers.
     let host = host_called(component, &store.state, thread);
@@ -164,11 +167,13 @@ fn step_thread<T, H: AccessorTask<T> + FromHost, G: TaskGroupHook>(
     trace: &mut PackedLabels,
 ) -> StepResult
     requires runs { RunsThread H.course component.now thread store.old }
+    requires room { 0 < trace.old.spare }
     ensures constants_stay { constants store.new ≡ constants store.old }
     ensures steps { is_made result ≡ true → StepsUntold H.course component.now thread store.old result store.new trace.old trace.new }
     ensures listeners { store.new.listeners ≡ store.old.listeners }
-    ensures tracked { TracksSame store.old.state store.new.state }
-    ensures full { is_made result ≡ false → IsFull result trace.old trace.new }
+    ensures full { is_made result ≡ false → IsFull result trace.old.labels trace.new.labels }
+    ensures lacks { is_made result ≡ false → LacksThread component.now thread store.old store.new trace.old.labels trace.new.labels }
+    ensures spare { trace.old.spare ≤ trace.new.spare + 1 }
 {
     let stepped = step_run(component, &mut store.state, thread, trace);
     if let StepResult::Nothing = stepped {
@@ -190,8 +195,10 @@ fn run_thread<T, H: AccessorTask<T> + FromHost, G: TaskGroupHook>(
     requires runs { RunsThread H.course component.now thread store.old }
     requires running { running.old ≡ group_running store.old.state (Turn.Run thread) }
     requires asked { IsAsked store.old.state }
+    requires room { 0 < trace.old.spare }
     ensures constants_stay { constants store.new ≡ constants store.old }
-    ensures ran { RunsTo H.course component.now thread store.old result running.new store.new trace.old trace.new }
+    ensures spare { trace.old.spare ≤ trace.new.spare + 1 }
+    ensures ran { RunsTo H.course component.now thread store.old result running.new store.new trace.old.labels trace.new.labels }
 {
     store.state.none_is_zero();
     let stepped = step_thread(component, store, thread, trace);
@@ -225,9 +232,11 @@ fn poll_work<T, H: AccessorTask<T> + FromHost, G: TaskGroupHook>(
     requires at { IsAtTurn component.now (Turn.Futures polled) store.old.state }
     requires hosts { HoldsHosts H.course store.old }
     requires asked { IsAsked store.old.state }
+    requires room { 0 < trace.old.spare }
     ensures constants_stay { constants store.new ≡ constants store.old }
+    ensures spare { trace.old.spare ≤ trace.new.spare + 1 }
     ensures works { KeepsWorks store.old.state store.new.state × HoldsHosts H.course store.new }
-    ensures polled { WorkPollsTo (Turn.Futures polled) store.old result running.new store.new trace.old trace.new }
+    ensures polled { WorkPollsTo (Turn.Futures polled) store.old result running.new store.new trace.old.labels trace.new.labels }
 {
     // only the contract speaks of `component`
     let _component = component;
@@ -235,9 +244,6 @@ fn poll_work<T, H: AccessorTask<T> + FromHost, G: TaskGroupHook>(
     let mut worked = None;
     let made = store.poll_next(polled, &mut worked);
     let stepped = put(trace, made);
-    if !is_made(stepped) {
-        return stepped;
-    }
     store.state.count_ended();
     let Ok(next) = tell_poll(&mut store.state, &mut store.listeners, worked) else {
         return StepResult::HookFailed;
@@ -258,7 +264,9 @@ fn take_entry<T, H: AccessorTask<T> + FromHost, G: TaskGroupHook>(
 ) -> StepResult
     requires at { IsAtTurn component.now (Turn.Take ended) store.old.state }
     requires asked { IsAsked store.old.state }
-    ensures taken { TakesTo component.now trap_on_idle ended store.old result running.new store.new trace.old trace.new }
+    requires room { 0 < trace.old.spare }
+    ensures spare { trace.old.spare ≤ trace.new.spare + 1 }
+    ensures taken { TakesTo component.now trap_on_idle ended store.old result running.new store.new trace.old.labels trace.new.labels }
     ensures rest { store.new ≡ record store.old { state = store.new.state; listeners = store.new.listeners } }
 {
     store.state.none_is_zero();
@@ -304,10 +312,11 @@ impl RunConcurrent {
     /// after, and the outcome is what that run has resulted in. The labels of main among them are those of the steps that main did,
     /// in their order. The notices of that run are told, in their order.
     ///
-    /// If it is out of memory, the labels that were added are those of such a run to a state that is lost. The notices of these labels
-    /// were told, and main did the steps that they show; at main's turn it may have done and told more. Then the store is trapped,
-    /// and its groups are finished: those of that state, unless it is main's turn. Whether a run is active on the store, whether it is
-    /// concurrent and its number stay.
+    /// If it is out of memory, the labels that were added are those of such a run. The notices of these labels were told, and main did
+    /// the steps that they show; at main's turn it may have done and told more. The store is as that run left it, unless the next step
+    /// is main's, takes an entry or calls a host. Then the store is trapped, and its groups are finished: those of the run's last state,
+    /// unless it is main's turn. Whether a run is active on the store, whether it is concurrent and its number stay. The trace
+    /// had no room for the next label, or the next step may want memory: it is main's, takes a start, or does an op that may take some.
     ///
     /// Where the hook that is told of the groups answers an error, the outcome is trap 22, which adds no label of its own and
     /// comes by nothing else: the store is trapped, its groups are finished, and the run is over. The labels that were added are
@@ -381,8 +390,8 @@ impl RunConcurrent {
         steps: u32,
         trace: &mut PackedLabels,
     ) -> Result<Stop, Halt>
-        requires may { MayRun M.says H.course component.now (at self.old main.old store.old trace.old) }
-        ensures keeps { Keeps M.says (at self.old main.old store.old trace.old) (at self.new main.new store.new trace.new) }
+        requires may { MayRun M.says H.course component.now (at self.old main.old store.old trace.old.labels) }
+        ensures keeps { Keeps M.says (at self.old main.old store.old trace.old.labels) (at self.new main.new store.new trace.new.labels) }
         ensures kept { P.YIELDS ≡ false → self.new.yield_budget ≡ self.old.yield_budget }
         ensures gone { TurnsGive M.says H.course component.now P.YIELDS steps result
             self.old main.old store.old trace.old self.new main.new store.new trace.new }
@@ -448,11 +457,16 @@ impl RunConcurrent {
         trace: &mut PackedLabels,
         running: &mut u64,
     ) -> StepResult
-        requires may { MayTurn M.says H.course component.now running.old (at self.now main.old store.old trace.old) }
-        ensures keeps { Keeps M.says (at self.now main.old store.old trace.old) (at self.now main.new store.new trace.new) }
+        requires may { MayTurn M.says H.course component.now running.old (at self.now main.old store.old trace.old.labels) }
+        ensures keeps { Keeps M.says (at self.now main.old store.old trace.old.labels) (at self.now main.new store.new trace.new.labels) }
+        ensures spare { trace.old.spare ≤ trace.new.spare + 1 }
         ensures turned { TurnGives M.says H.course component.now result running.new
             self.now main.old store.old trace.old main.new store.new trace.new }
     {
+        // Room for the label is made before the step, so that one that is made is told.
+        let Ok(()) = trace.make_room() else {
+            return StepResult::Full;
+        };
         match turn_of(self.last) {
             Turn::Main => step_main(component, store, main, trace),
             Turn::Futures { polled } => poll_work(component, store, polled, trace, running),

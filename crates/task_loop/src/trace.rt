@@ -20,7 +20,7 @@ impl Model for Trace {
 
     ghost Value = { List Label };
 
-    ghost view = { λ t. t.labels };
+    ghost view = { λ t. t.labels.labels };
 }
 
 impl Trace {

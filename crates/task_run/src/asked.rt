@@ -2,7 +2,7 @@
 ghost use Rattle.laws_beside.specs.Wide.{is_running};
 ghost use Rattle.machine_data.specs.Read.{phase_of};
 ghost use Rattle.machine_rules.specs.MainOps.{spawned_at};
-ghost use Rattle.std.specs.Prelude.{◌≡◌, IfOk, OnOk, true, ℕ};
+ghost use Rattle.std.specs.Prelude.{◌≡◌, IfOk, OnErr, OnOk, true, ℕ};
 ghost use Rattle.task_loop.specs.Beside.{HasFound};
 ghost use Rattle.task_run.specs.Asked.{HasAskedOp, op_of};
 ghost use Rattle.task_run.specs.Says.{script_says};
@@ -67,7 +67,8 @@ fn runs<T, H, G: TaskGroupHook>(main: &ScriptMain<'_>, store: &Store<T, H, G>, s
 
 impl ScriptMain<'_> {
     /// Asks what other threads have done to the spawn that main is next to abort, or waits for. If main is to abort a running one
-    /// that they have aborted, main passes that op, and the spawn is answered, counted from 1. Else main is as before.
+    /// that they have aborted, main passes that op, and the spawn is answered, counted from 1. Else, and if it is out of memory, main is
+    /// as before.
     pub fn ask<T, H, G: TaskGroupHook, B: AskedSpawns>(
         &mut self,
         store: &Store<T, H, G>,
@@ -77,6 +78,7 @@ impl ScriptMain<'_> {
         ensures asked { OnOk result (HasAskedOp B.aborted B.awaited (op_of self.old) beside.old beside.new) }
         ensures ops { self.new.ops ≡ self.old.ops }
         ensures found { IfOk result (λ found. HasFound script_says found self.old self.new store.now.state) }
+        ensures err { OnErr result (self.new ≡ self.old) }
     {
         match op_here(self.ops, self.at) {
             Some(MainOp::Abort(spawn)) => {

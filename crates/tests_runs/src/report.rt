@@ -17,7 +17,8 @@ fn prints(rt: &impl Abort, alloc: Global, label: Label, text: &[u8]) {
 
 fn listed(rt: &impl Abort, alloc: Global, label: Label) -> PackedLabels {
     let mut list = PackedLabels::new(alloc);
-    assert!(rt; list.push(label).is_ok());
+    assert!(rt; list.make_room().is_ok());
+    list.push(label);
     list
 }
 
@@ -73,7 +74,8 @@ fn prints_labels_of_threads(rt: HostRuntime) {
 fn a_full_page_is_taken_away(rt: HostRuntime) {
     let mut list = PackedLabels::new(rt.alloc());
     for _ in 0..26_215 {
-        assert!(rt; list.push(Label::Loop(LoopLabel::Rest)).is_ok());
+        assert!(rt; list.make_room().is_ok());
+        list.push(Label::Loop(LoopLabel::Rest));
     }
     let mut page = page(&rt, rt.alloc());
     assert!(rt; page.fill(&mut list.labels()));

@@ -25,7 +25,7 @@ show-requires-clause-goes g c =
     same_goes c.args.thread _ (v c.args.w.now) u c.compute-op_result.result (data_shows c.args.component.now _ _ c.args.op.now) (c.compute-op_result.ensures.implements c.args.component.now c.requires.within.1) c.requires.runner.current c.compute-op_result.ensures.tags c.compute-op_result.ensures.current
 
 pub returns-clause-shown : goal.returns-clause-shown
-returns-clause-shown g c made =
+returns-clause-shown g c =
     let v = g.W.View.view in
     let s = v c.args.w.now in
     let u = v c.compute-op_result.new.w in
@@ -37,8 +37,5 @@ returns-clause-shown g c made =
       implements = implements;
       picks = calm_picks (preference s) n (data_rule c.args.component.now n s.core c.args.op.now) s.core c.compute-op_result.result u.core (data_calm c.args.component.now n s.core c.args.op.now) implements;
       stays = same_stays _ s u c.compute-op_result.result implements c.compute-op_result.ensures.tags c.compute-op_result.ensures.current;
-      shown = c.show.ensures.shown made;
+      shown = c.show.ensures.shown;
     }
-
-pub returns-clause-tracked : goal.returns-clause-tracked
-returns-clause-tracked g c = c.show.ensures.works.1 ∙ ap (λ (ts : Tags). ts.tracked) c.compute-op_result.ensures.tags

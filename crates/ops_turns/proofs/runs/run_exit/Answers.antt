@@ -12,7 +12,7 @@ pub show_exit-requires-clause-goes : goal.show_exit-requires-clause-goes
 show_exit-requires-clause-goes g c = c.exit-op_result.ensures.does.goes
 
 pub returns-clause-shown : goal.returns-clause-shown
-returns-clause-shown g c made d =
+returns-clause-shown g c d =
     let v = g.W.View.view in
     let s = v c.args.w.now in
     let u = v c.exit-op_result.new.w in
@@ -25,8 +25,5 @@ returns-clause-shown g c made d =
       implements = implements;
       picks = picks;
       stays = did.stays;
-      shown = c.show_exit.ensures.shown made;
+      shown = c.show_exit.ensures.shown;
     }
-
-pub returns-clause-tracked : goal.returns-clause-tracked
-returns-clause-tracked g c = c.show_exit.ensures.works.1 ∙ c.exit-op_result.ensures.does.kept.1

@@ -81,9 +81,3 @@ returns-clause-works g c =
     let u = v c.finish.new.w in
     let did = end_op c.args.answer c.args.component.now c.args.op.now c.args.thread s (v c.do_host_call.new.w) u c.in_ok-done.done (rw c.in-Call.is c.in_ok-done.ensures.does) c.finish.ensures in
     works_told (thread_of u c.args.thread) c.in_ok-done.done.op_result s u (v c.made_of.new.w) c.made_of.ensures.core did.works c.made_of.ensures.works
-
-pub returns-clause-tracked : goal.returns-clause-tracked
-returns-clause-tracked g c =
-    let v = g.W.View.view in
-    let did = end_op c.args.answer c.args.component.now c.args.op.now c.args.thread (v c.args.w.now) (v c.do_host_call.new.w) (v c.finish.new.w) c.in_ok-done.done (rw c.in-Call.is c.in_ok-done.ensures.does) c.finish.ensures in
-    c.made_of.ensures.works.1 ∙ did.works.1

@@ -1,14 +1,13 @@
 use Rattle.ops_dispatch.proofs.BeforeEndLemmas.{answers_right, event_fits, below_end}
 use Rattle.ops_dispatch.specs.Rules.{rule_of}
-use Rattle.std.proofs.Common.{ap, arith, refl, ◌∙◌}
-use Rattle.ops_turns.proofs.SteppedLemmas.{made_if}
+use Rattle.std.proofs.Common.{arith, refl, sym, ◌∙◌}
 use Rattle.ops_guests.specs.Works.{NamesTold}
 use Rattle.machine_rules.specs.Step.{own_script}
 use Rattle.ops_dispatch.proofs.EndLemmas.{end_goes, end_implements, end_picks, end_stays, end_works, plain_other}
 use Rattle.ops_turns.proofs.OrderLemmas.{unwinds}
 use Rattle.ops_turns.proofs.RanLemmas.{works_told}
 use Rattle.ops_turns.proofs.runs.run_plain.Goals as goal
-use Rattle.core_primitives.specs.StateView.{StateView, thread_of}
+use Rattle.core_primitives.specs.StateView.{thread_of}
 
 pub finish-requires-clause-position : goal.finish-requires-clause-position
 finish-requires-clause-position g c due =
@@ -56,7 +55,7 @@ returns-clause-shown g c made =
       implements = end_implements NamesTold (rule_of k o) (own_script o) c.args.thread s m u c.in-Ok.op_result c.in-Ok.ensures.does c.finish.ensures;
       picks = end_picks NamesTold (rule_of k o) (own_script o) c.args.thread s m u c.in-Ok.op_result c.in-Ok.ensures.does c.finish.ensures;
       stays = end_stays NamesTold (rule_of k o) (own_script o) c.args.thread s m u c.in-Ok.op_result c.in-Ok.ensures.does c.finish.ensures;
-      shown = c.show.ensures.shown made;
+      shown = c.show.ensures.shown;
     }
 
 pub returns-clause-works : goal.returns-clause-works
@@ -68,16 +67,17 @@ returns-clause-works g c room =
     let o = c.args.op.now in
     let did = c.in-Ok.ensures.does in
     let told = end_works NamesTold (rule_of c.args.component.now o) (own_script o) c.args.thread s (v c.do_plain_op.new.w) u c.in-Ok.op_result did c.finish.ensures did.kept in
-    let shown = c.show.ensures.shown (made_if c.show.result c.show.ensures.full room) in
+    let shown = c.show.ensures.shown in
     works_told (thread_of u c.args.thread) c.in-Ok.op_result s u t shown.core told c.show.ensures.works
 
 pub returns-clause-full : goal.returns-clause-full
-returns-clause-full g c unmade =
-    let v = g.W.View.view in
-    let o = c.args.op.now in
-    let did = c.in-Ok.ensures.does in
-    let told = end_works NamesTold (rule_of c.args.component.now o) (own_script o) c.args.thread (v c.args.w.now) (v c.do_plain_op.new.w) (v c.finish.new.w) c.in-Ok.op_result did c.finish.ensures did.kept in
-    (c.show.ensures.full unmade, c.show.ensures.works.1 ∙ told.1)
+returns-clause-full g c unmade = let no = sym c.show.ensures.made ∙ unmade in absurd (cc)
 
 pub returns-in_default-do_plain_op-clause-full : goal.returns-in_default-do_plain_op-clause-full
-returns-in_default-do_plain_op-clause-full g c unmade = ((refl, refl), ap (λ (u : StateView). u.tags.tracked) c.in_default-do_plain_op.ensures.err.1)
+returns-in_default-do_plain_op-clause-full g c unmade = ((refl, refl), c.in_default-do_plain_op.ensures.err)
+
+pub returns-clause-spare : goal.returns-clause-spare
+returns-clause-spare g c = record { most = omega (arith, c.show.ensures.spare); unmade = λ unmade. absurd (let no = sym c.show.ensures.made ∙ unmade in cc) }
+
+pub returns-in_default-do_plain_op-clause-spare : goal.returns-in_default-do_plain_op-clause-spare
+returns-in_default-do_plain_op-clause-spare g c = record { most = omega arith; unmade = λ unmade. refl }

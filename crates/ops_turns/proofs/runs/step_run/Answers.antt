@@ -1,4 +1,4 @@
-use Rattle.std.proofs.Common.{ap, length, refl, subst, sym, ◌<◌, ◌≡◌, ◌∙◌}
+use Rattle.std.proofs.Common.{ap, arith, length, refl, subst, sym, ◌<◌, ◌≡◌, ◌∙◌}
 use Rattle.std.proofs.lemmas.Option.{slice_get_within}
 use Rattle.std.specs.Prelude.{None, Some, option_copied, slice_get}
 use Rattle.machine_data.specs.Labels.{choice_of}
@@ -10,7 +10,7 @@ use Rattle.ops_guests.specs.Steps.{label_of}
 use Rattle.ops_turns.proofs.CoveredLemmas.{home_below}
 use Rattle.ops_turns.proofs.OrderLemmas.{number_at, runner}
 use Rattle.ops_turns.proofs.RunLemmas.{op_is, row_at, script_is}
-use Rattle.ops_turns.proofs.SteppedLemmas.{of_full, run_steps, step_made}
+use Rattle.ops_turns.proofs.SteppedLemmas.{made_room, of_made, run_steps, run_wants, step_made}
 use Rattle.ops_turns.proofs.runs.step_run.Goals as goal
 use Rattle.core_primitives.specs.StateView.{thread_of}
 
@@ -27,7 +27,7 @@ run_by-requires-clause-runner g c =
 pub run_exit-requires : goal.run_exit-requires
 run_exit-requires g c =
     let s = g.W.View.view c.args.w.now in
-    record { runner = runner c.args.component.now c.args.number s c.requires.order c.none_is_zero.ensures.threads c.requires.runs c.in-Some.thread (sym c.current.ensures ∙ c.in-Some.is) }
+    record { runner = runner c.args.component.now c.args.number s c.requires.order c.none_is_zero.ensures.threads c.requires.runs c.in-Some.thread (sym c.current.ensures ∙ c.in-Some.is); room = c.requires.room }
 
 pub run_by-requires-clause-fits : goal.run_by-requires-clause-fits
 run_by-requires-clause-fits g c =
@@ -63,7 +63,22 @@ returns-in-Some-op_at-clause-ran g c =
     let is = op_is c.args.component.now n s.core q.thread q.here c.script_ops-script.result.now c.at-point.result.callee (task_of n s.core) c.at-point.result.position c.at-point.result.script c.at-point.ensures.callee refl (c.at-point.ensures.script q.thread q.here) c.script_ops-script.ensures c.at-point.ensures.position (Some o) e in
     run_steps comp c.in-Some.thread c.args.number s t number o is
     (λ r. row_at c.args.component.now n s.core q.thread q.here c.script_ops-script.result.now c.at-point.result.callee (task_of n s.core) c.at-point.result.position c.at-point.result.script c.at-point.ensures.callee refl (c.at-point.ensures.script q.thread q.here) c.script_ops-script.ensures c.at-point.ensures.position (Some o) e (choice_of (label_of n r)))
-    c.args.trace.now c.run_by.new.trace c.run_by.result c.run_by.ensures.step c.run_by.ensures.polls
+    c.args.trace.now.labels c.run_by.new.trace.labels c.run_by.result c.run_by.ensures.step c.run_by.ensures.polls
+
+pub returns-in-Some-op_at-clause-full : goal.returns-in-Some-op_at-clause-full
+returns-in-Some-op_at-clause-full g c lacks =
+    let s = g.W.View.view c.args.w.now in
+    let n = thread_of s c.in-Some.thread in
+    let q = runner c.args.component.now c.args.number s c.requires.order c.none_is_zero.ensures.threads c.requires.runs c.in-Some.thread (sym c.current.ensures ∙ c.in-Some.is) in
+    let t = g.W.View.view c.run_by.new.w in
+    let comp = c.args.component.now in
+    let number = number_at c.args.number s c.requires.runs c.in-Some.thread (sym c.current.ensures ∙ c.in-Some.is) in
+    let o = c.in-Some-op_at.op.now in
+    let e = sym (ap option_copied c.in-Some-op_at.is) ∙ c.op_at.ensures in
+    let is = op_is c.args.component.now n s.core q.thread q.here c.script_ops-script.result.now c.at-point.result.callee (task_of n s.core) c.at-point.result.position c.at-point.result.script c.at-point.ensures.callee refl (c.at-point.ensures.script q.thread q.here) c.script_ops-script.ensures c.at-point.ensures.position (Some o) e in
+    run_wants comp c.in-Some.thread c.args.number s t number o is
+    (λ r. row_at c.args.component.now n s.core q.thread q.here c.script_ops-script.result.now c.at-point.result.callee (task_of n s.core) c.at-point.result.position c.at-point.result.script c.at-point.ensures.callee refl (c.at-point.ensures.script q.thread q.here) c.script_ops-script.ensures c.at-point.ensures.position (Some o) e (choice_of (label_of n r)))
+    (c.run_by.ensures.step.full lacks).0
 
 pub returns-in-None-clause-ran : goal.returns-in-None-clause-ran
 returns-in-None-clause-ran g c =
@@ -75,9 +90,15 @@ returns-in-None-clause-ran g c =
     let number = number_at c.args.number s c.requires.runs c.in-Some.thread (sym c.current.ensures ∙ c.in-Some.is) in
     let e = sym (ap option_copied c.in-None.is) ∙ c.op_at.ensures in
     let is = op_is c.args.component.now n s.core q.thread q.here c.script_ops-script.result.now c.at-point.result.callee (task_of n s.core) c.at-point.result.position c.at-point.result.script c.at-point.ensures.callee refl (c.at-point.ensures.script q.thread q.here) c.script_ops-script.ensures c.at-point.ensures.position None e in
-    let before = c.args.trace.now in
-    let after = c.run_exit.new.trace in
-    of_full c.run_exit.result
-    (λ made. step_made comp c.in-Some.thread c.args.number s t number (op.Task task.Exit) is
+    let before = c.args.trace.now.labels in
+    let after = c.run_exit.new.trace.labels in
+    of_made c.run_exit.result c.run_exit.ensures.made
+    (step_made comp c.in-Some.thread c.args.number s t number (op.Task task.Exit) is
     (λ r. row_at c.args.component.now n s.core q.thread q.here c.script_ops-script.result.now c.at-point.result.callee (task_of n s.core) c.at-point.result.position c.at-point.result.script c.at-point.ensures.callee refl (c.at-point.ensures.script q.thread q.here) c.script_ops-script.ensures c.at-point.ensures.position None e (choice_of (label_of n r)))
-    before after c.run_exit.result (c.run_exit.ensures.shown made comp) refl) c.run_exit.ensures.full (λ same. same)
+    before after c.run_exit.result (c.run_exit.ensures.shown comp) refl)
+
+pub returns-in-None-clause-full : goal.returns-in-None-clause-full
+returns-in-None-clause-full g c lacks = absurd (made_room c.run_exit.result c.run_exit.ensures.made lacks)
+
+pub returns-in-None-clause-spare : goal.returns-in-None-clause-spare
+returns-in-None-clause-spare g c = record { most = omega (arith, c.run_exit.ensures.spare); unmade = λ unmade. absurd (let no = sym c.run_exit.ensures.made ∙ unmade in cc) }

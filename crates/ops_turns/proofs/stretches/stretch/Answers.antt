@@ -1,7 +1,9 @@
 -- Each op of the stretch adds to the run, and in the end the context is written back.
 use Rattle.std.proofs.Common.{ap, arith, length, refl, subst, sym, ◌+◌, ◌≡◌, ◌∙◌}
+use Rattle.run_trace.specs.Traced.{Traced}
+use Rattle.machine_data.specs.declared.label.Label.TheVariants as label
 use Rattle.std.proofs.lemmas.Option.{slice_get_within}
-use Rattle.std.specs.Prelude.{List, Some, option_copied, slice_get}
+use Rattle.std.specs.Prelude.{List, Some, [], option_copied, slice_get, ◌++◌, ◌∷◌}
 use Rattle.machine_data.specs.Core.{Core}
 use Rattle.machine_data.specs.Read.{op_progress_of, position_of, registers_of, task_of}
 use Rattle.machine_data.specs.declared.label.Label.{Label}
@@ -36,9 +38,10 @@ ops-init g c =
     let registers = subst (λ k. x.registers ≡ registers_of k s.core) number c.context_of-context.ensures.registers in
     let same = begins c.args.number s.core q.0 q.1.0 fresh x position registers in
     record {
+      spare = omega arith;
       beside = beside_same s;
-      on = subst (λ (d : Core). KeepsOn c.args.component.now (turn.Run c.args.number) s c.args.trace.now c.args.added (with_core d s) c.args.trace.now c.args.added) (sym same) (λ z component first trace numbers m going. going);
-      computes = subst (λ (d : Core). Computes c.args.component.now (turn.Run c.args.number) s c.args.trace.now c.args.added (with_core d s) c.args.trace.now c.args.added) (sym same) (computes_none c.args.component.now (turn.Run c.args.number) s c.args.trace.now c.args.added);
+      on = subst (λ (d : Core). KeepsOn c.args.component.now (turn.Run c.args.number) s c.args.trace.now.labels c.args.added (with_core d s) c.args.trace.now.labels c.args.added) (sym same) (λ z component first trace numbers m going. going);
+      computes = subst (λ (d : Core). Computes c.args.component.now (turn.Run c.args.number) s c.args.trace.now.labels c.args.added (with_core d s) c.args.trace.now.labels c.args.added) (sym same) (computes_none c.args.component.now (turn.Run c.args.number) s c.args.trace.now.labels c.args.added);
     }
 
 pub returns-in_default-op_at-clause-on : goal.returns-in_default-op_at-clause-on
@@ -46,14 +49,14 @@ returns-in_default-op_at-clause-on g c =
     let s = g.W.View.view c.args.w.now in
     let number = number_at c.args.number s c.requires.runs c.in-Some.thread (sym c.current.ensures ∙ c.in-Some.is) in
     let back = written c.args.number s (g.W.View.view c.ops.w) (g.W.View.view c.set_context.new.self) c.in-Some.thread c.ops.context number c.ops.invariant.beside c.set_context.ensures in
-    subst (λ (u : StateView). KeepsOn c.args.component.now (turn.Run c.args.number) s c.args.trace.now c.args.added u c.ops.trace c.ops.count) (sym back) c.ops.invariant.on
+    subst (λ (u : StateView). KeepsOn c.args.component.now (turn.Run c.args.number) s c.args.trace.now.labels c.args.added u c.ops.trace.labels c.ops.count) (sym back) c.ops.invariant.on
 
 pub returns-in_default-op_at-clause-computes : goal.returns-in_default-op_at-clause-computes
 returns-in_default-op_at-clause-computes g c =
     let s = g.W.View.view c.args.w.now in
     let number = number_at c.args.number s c.requires.runs c.in-Some.thread (sym c.current.ensures ∙ c.in-Some.is) in
     let back = written c.args.number s (g.W.View.view c.ops.w) (g.W.View.view c.set_context.new.self) c.in-Some.thread c.ops.context number c.ops.invariant.beside c.set_context.ensures in
-    subst (λ (u : StateView). Computes c.args.component.now (turn.Run c.args.number) s c.args.trace.now c.args.added u c.ops.trace c.ops.count) (sym back) c.ops.invariant.computes
+    subst (λ (u : StateView). Computes c.args.component.now (turn.Run c.args.number) s c.args.trace.now.labels c.args.added u c.ops.trace.labels c.ops.count) (sym back) c.ops.invariant.computes
 
 pub computes_in-label-requires-clause-there : goal.computes_in-label-requires-clause-there
 computes_in-label-requires-clause-there g c =
@@ -83,12 +86,14 @@ ops-preserved g c =
     let l = c.computes_in-label.result in
     let row = c.computes_in-label.ensures.row d (ap length (script_there d n t q.0 found runs ops script x)) in
     let here : slice_get ops x.position ≡ Some (op.Data c.in-Some-Data.op) = sym c.op_at.ensures ∙ (ap option_copied c.in-Some-Data.is ∙ ap (λ (o : Op). Some o) c.in-Some-Data.field-0-is) in
-    let on = keeps_on d n t q.0 found runs ops script x c.in-Some-Data.op l y u c.computes_in-label.ensures.beside row here s c.args.trace.now c.ops.trace c.args.added c.ops.count c.ops.invariant.on in
+    let labels = ap (λ (ts : Traced). ts.labels) c.push.ensures ∙ ap (λ (ls : List Label). ls ++ label.Data l ∷ []) c.in-Ok.ensures.labels in
+    let on = keeps_on d n t q.0 found runs ops script x c.in-Some-Data.op l y u c.computes_in-label.ensures.beside row here s c.args.trace.now.labels c.ops.trace.labels c.args.added c.ops.count c.ops.invariant.on in
     record {
+      spare = omega (arith, c.ops.invariant.spare, ap (λ (ts : Traced). ts.spare) c.push.ensures, c.in-Ok.ensures.kept, c.in-Ok.ensures.room);
       beside = beside_both s t u beside c.computes_in-label.ensures.beside;
-      on = subst (λ (ls : List Label). KeepsOn d (turn.Run n) s c.args.trace.now c.args.added (state_in n y u) ls (c.ops.count + 1)) (sym c.in-Ok.ensures.ok) on;
-      computes = subst (λ (ls : List Label). Computes d (turn.Run n) s c.args.trace.now c.args.added (state_in n y u) ls (c.ops.count + 1)) (sym c.in-Ok.ensures.ok)
-          (computes_more d n t q.0 found runs ops script x c.in-Some-Data.op l y u c.computes_in-label.ensures.beside row here s c.args.trace.now c.ops.trace c.args.added c.ops.count c.ops.invariant.computes);
+      on = subst (λ (ls : List Label). KeepsOn d (turn.Run n) s c.args.trace.now.labels c.args.added (state_in n y u) ls (c.ops.count + 1)) (sym labels) on;
+      computes = subst (λ (ls : List Label). Computes d (turn.Run n) s c.args.trace.now.labels c.args.added (state_in n y u) ls (c.ops.count + 1)) (sym labels)
+          (computes_more d n t q.0 found runs ops script x c.in-Some-Data.op l y u c.computes_in-label.ensures.beside row here s c.args.trace.now.labels c.ops.trace.labels c.args.added c.ops.count c.ops.invariant.computes);
     }
 
 pub returns-clause-on : goal.returns-clause-on
@@ -97,15 +102,20 @@ returns-clause-on g c =
     let number = number_at c.args.number s c.requires.runs c.in-Some.thread (sym c.current.ensures ∙ c.in-Some.is) in
     let back = written c.args.number s (g.W.View.view c.ops.w) (g.W.View.view c.set_context-2.new.self) c.in-Some.thread c.ops.context number c.ops.invariant.beside c.set_context-2.ensures in
     let all : c.ops.count ≡ c.args.steps = omega (arith, c.ops-test.false) in
-    subst (λ k. KeepsOn c.args.component.now (turn.Run c.args.number) s c.args.trace.now c.args.added (g.W.View.view c.set_context-2.new.self) c.ops.trace k) all
-    (subst (λ (u : StateView). KeepsOn c.args.component.now (turn.Run c.args.number) s c.args.trace.now c.args.added u c.ops.trace c.ops.count) (sym back) c.ops.invariant.on)
+    subst (λ k. KeepsOn c.args.component.now (turn.Run c.args.number) s c.args.trace.now.labels c.args.added (g.W.View.view c.set_context-2.new.self) c.ops.trace.labels k) all
+    (subst (λ (u : StateView). KeepsOn c.args.component.now (turn.Run c.args.number) s c.args.trace.now.labels c.args.added u c.ops.trace.labels c.ops.count) (sym back) c.ops.invariant.on)
 
-pub returns-in_default-push-clause-err : goal.returns-in_default-push-clause-err
-returns-in_default-push-clause-err g c =
+-- there is no room for the next label, and the context is written back
+pub returns-in_default-make_room-clause-err : goal.returns-in_default-make_room-clause-err
+returns-in_default-make_room-clause-err g c =
     let s = g.W.View.view c.args.w.now in
-    subst (λ (ls : List Label). StopsShort c.args.component.now (turn.Run c.args.number) s c.args.trace.now c.args.added ls c.args.steps) (sym c.in_default-push.ensures.err)
-    (stops_at c.args.component.now c.args.number s c.args.trace.now c.args.added (state_in c.args.number c.ops.context (g.W.View.view c.ops.w)) c.ops.trace c.ops.count c.args.steps (omega (arith, c.ops-test.true)) c.ops.invariant.on
-    c.ops.invariant.computes)
+    let number = number_at c.args.number s c.requires.runs c.in-Some.thread (sym c.current.ensures ∙ c.in-Some.is) in
+    let back = written c.args.number s (g.W.View.view c.ops.w) (g.W.View.view c.set_context-in_default-make_room.new.self) c.in-Some.thread c.ops.context number c.ops.invariant.beside c.set_context-in_default-make_room.ensures in
+    let none = c.in_default-make_room.ensures.err in
+    rw none.0 (stops_at c.args.component.now c.args.number s c.args.trace.now c.args.added (g.W.View.view c.set_context-in_default-make_room.new.self) c.ops.trace c.ops.count c.args.steps (omega (arith, c.ops-test.true))
+    (omega (arith, c.ops.invariant.spare, none.1))
+    (subst (λ (u : StateView). KeepsOn c.args.component.now (turn.Run c.args.number) s c.args.trace.now.labels c.args.added u c.ops.trace.labels c.ops.count) (sym back) c.ops.invariant.on)
+    (subst (λ (u : StateView). Computes c.args.component.now (turn.Run c.args.number) s c.args.trace.now.labels c.args.added u c.ops.trace.labels c.ops.count) (sym back) c.ops.invariant.computes))
 
 pub returns-clause-computes : goal.returns-clause-computes
 returns-clause-computes g c =
@@ -113,8 +123,8 @@ returns-clause-computes g c =
     let number = number_at c.args.number s c.requires.runs c.in-Some.thread (sym c.current.ensures ∙ c.in-Some.is) in
     let back = written c.args.number s (g.W.View.view c.ops.w) (g.W.View.view c.set_context-2.new.self) c.in-Some.thread c.ops.context number c.ops.invariant.beside c.set_context-2.ensures in
     let all : c.ops.count ≡ c.args.steps = omega (arith, c.ops-test.false) in
-    subst (λ k. Computes c.args.component.now (turn.Run c.args.number) s c.args.trace.now c.args.added (g.W.View.view c.set_context-2.new.self) c.ops.trace k) all
-    (subst (λ (u : StateView). Computes c.args.component.now (turn.Run c.args.number) s c.args.trace.now c.args.added u c.ops.trace c.ops.count) (sym back) c.ops.invariant.computes)
+    subst (λ k. Computes c.args.component.now (turn.Run c.args.number) s c.args.trace.now.labels c.args.added (g.W.View.view c.set_context-2.new.self) c.ops.trace.labels k) all
+    (subst (λ (u : StateView). Computes c.args.component.now (turn.Run c.args.number) s c.args.trace.now.labels c.args.added u c.ops.trace.labels c.ops.count) (sym back) c.ops.invariant.computes)
 
 pub returns-in_default-op_at-clause-works : goal.returns-in_default-op_at-clause-works
 returns-in_default-op_at-clause-works g c =
@@ -125,3 +135,8 @@ pub returns-clause-works : goal.returns-clause-works
 returns-clause-works g c =
     let v = g.W.View.view in
     written_works (v c.args.w.now) (v c.ops.w) (v c.set_context-2.new.self) _ _ _ c.ops.invariant.beside c.set_context-2.ensures
+
+pub returns-in_default-make_room-clause-works : goal.returns-in_default-make_room-clause-works
+returns-in_default-make_room-clause-works g c =
+    let v = g.W.View.view in
+    written_works (v c.args.w.now) (v c.ops.w) (v c.set_context-in_default-make_room.new.self) _ _ _ c.ops.invariant.beside c.set_context-in_default-make_room.ensures

@@ -1,10 +1,12 @@
-use Rattle.std.proofs.Common.{ap, subst, sym, ◌∙◌}
+use Rattle.std.proofs.Common.{arith, refl, subst, sym, ◌≡◌, ◌∙◌}
+use Rattle.machine_data.specs.Moves.{why_of}
+use Rattle.machine_data.specs.declared.records.Why.TheVariants as why
 use Rattle.ops_guests.proofs.CalmLemmas.{picks_implements}
 use Rattle.ops_guests.specs.Stays.{StaysAfter}
 use Rattle.ops_turns.proofs.ShowLemmas.{taken_unwinds}
 use Rattle.ops_turns.proofs.takes.step_thread.Goals as goal
 use Rattle.ops_turns.specs.Taken.{TakesThread, Taken}
-use Rattle.core_primitives.specs.StateView.{StateView, Tags, thread_of}
+use Rattle.core_primitives.specs.StateView.{StateView, thread_of}
 
 pub take_thread-requires-clause-taken : goal.take_thread-requires-clause-taken
 take_thread-requires-clause-taken g c = subst (λ (u : StateView). Taken c.args.mark (thread_of u c.args.thread) u.core) (sym c.set_current.ensures) c.requires.taken
@@ -24,10 +26,20 @@ returns-clause-shown g c made =
     let op_result = c.in-Ok.op_result in
     let picks = subst (λ (u : StateView). TakesThread c.args.mark (thread_of u id) u op_result w) c.set_current.ensures c.in-Ok.ensures.picks in
     let stays = subst (λ (u : StateView). StaysAfter op_result u w) c.set_current.ensures c.in-Ok.ensures.stays in
-    record { op_result = op_result; left = w; implements = picks_implements picks; picks = picks; stays = stays; shown = c.show_taken.ensures.shown made }
+    record { op_result = op_result; left = w; implements = picks_implements picks; picks = picks; stays = stays; shown = c.show_taken.ensures.shown }
 
-pub returns-clause-tracked : goal.returns-clause-tracked
-returns-clause-tracked g c = c.show_taken.ensures.works.1 ∙ ap (λ (ts : Tags). ts.tracked) (c.take_thread.ensures.tags ∙ ap (λ (u : StateView). u.tags) c.set_current.ensures)
+pub returns-in_default-clause-wants : goal.returns-in_default-clause-wants
+returns-in_default-clause-wants g c unmade =
+    subst (λ (u : StateView). why_of (thread_of u c.args.thread) u.core ≡ why.Start) c.set_current.ensures c.in_default.ensures.err
 
-pub returns-in_default-clause-tracked : goal.returns-in_default-clause-tracked
-returns-in_default-clause-tracked g c = ap (λ (ts : Tags). ts.tracked) (c.take_thread.ensures.tags ∙ ap (λ (u : StateView). u.tags) c.set_current.ensures)
+pub returns-clause-wants : goal.returns-clause-wants
+returns-clause-wants g c unmade = let no = sym c.show_taken.ensures.made ∙ unmade in absurd (cc)
+
+pub returns-clause-full : goal.returns-clause-full
+returns-clause-full g c unmade = let no = sym c.show_taken.ensures.made ∙ unmade in absurd (cc)
+
+pub returns-clause-spare : goal.returns-clause-spare
+returns-clause-spare g c = record { most = omega (arith, c.show_taken.ensures.spare); unmade = λ unmade. absurd (let no = sym c.show_taken.ensures.made ∙ unmade in cc) }
+
+pub returns-in_default-clause-spare : goal.returns-in_default-clause-spare
+returns-in_default-clause-spare g c = record { most = omega arith; unmade = λ unmade. refl }

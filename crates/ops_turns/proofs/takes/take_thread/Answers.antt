@@ -9,6 +9,7 @@ use Rattle.ops_guests.specs.Steps.{label_of}
 use Rattle.machine_rules.specs.Takes.{start_rule}
 use Rattle.ops_dispatch.proofs.StayLemmas.{ok_then, same_stays}
 use Rattle.ops_turns.proofs.ShowLemmas.{start_shows}
+use Rattle.ops_turns.proofs.SteppedLemmas.{err_then}
 use Rattle.ops_turns.proofs.takes.take_thread.Goals as goal
 use Rattle.ops_turns.specs.Turn.{Shows}
 use Rattle.core_primitives.specs.StateView.{thread_of}
@@ -31,3 +32,6 @@ returns-in-Start-clause-stays g c =
 
 pub take_start-requires-clause-bottom : goal.take_start-requires-clause-bottom
 take_start-requires-clause-bottom g c = let a = c.why.ensures in let b = c.in-Start.is in c.requires.taken.bottom (cc)
+
+pub returns-in-Start-clause-err : goal.returns-in-Start-clause-err
+returns-in-Start-clause-err g c = err_then c.take_start.result (λ same. let a = c.why.ensures in let b = c.in-Start.is in cc) c.take_start.ensures.err

@@ -12,8 +12,8 @@ pub returns-in-Computes-clause-ok : goal.returns-in-Computes-clause-ok
 returns-in-Computes-clause-ok g c =
     let e = c.stretch.ensures in
     rw c.in-Computes.is
-    (computed_run c.args.component.now c.in-Computes.thread (g.W.View.view c.args.w.now) c.args.trace.now c.args.added (g.W.View.view c.stretch.new.w) c.stretch.new.trace c.args.steps c.stretch.result e.few e.on e.computes)
+    (computed_run c.args.component.now c.in-Computes.thread (g.W.View.view c.args.w.now) c.args.trace.now.labels c.args.added (g.W.View.view c.stretch.new.w) c.stretch.new.trace.labels c.args.steps c.stretch.result e.few e.on e.computes)
 
 pub returns-in_default-clause-ok : goal.returns-in_default-clause-ok
 returns-in_default-clause-ok g c =
-    computed_same c.args.component.now (turn_of c.args.stepped) (g.W.View.view c.args.w.now) c.args.trace.now c.args.added c.args.steps c.requires.few
+    computed_same c.args.component.now (turn_of c.args.stepped) (g.W.View.view c.args.w.now) c.args.trace.now.labels c.args.added c.args.steps c.requires.few

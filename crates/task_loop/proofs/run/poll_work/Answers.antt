@@ -12,7 +12,6 @@ use Rattle.machine_data.specs.Core.{Core, Unscripted}
 use Rattle.machine_data.specs.declared.records.Turn.TheVariants as turn
 use Rattle.task_store.specs.Hosts.{HoldsWorks, held_by}
 use Rattle.ops_turns.proofs.SteppedLemmas.{of_made}
-use Rattle.task_loop.proofs.TakenLemmas.{of_unmade}
 use Rattle.ops_turns.specs.Turn.{setting_of}
 
 pub poll_next-made-requires-clause-may : goal.poll_next-made-requires-clause-may
@@ -42,12 +41,12 @@ returns-clause-polled g c =
     let a = groups_before_work c.poll_next-made.new.worked in
     let told = c.in-Ok.ensures.told in
     let same = ap (λ k. k.listeners) c.poll_next-made.ensures.rest in
-    let is = sym c.is_made.ensures ∙ c.if-not-is_made.false in
-    of_made {M = PollsTold (turn.Futures c.args.polled) c.in-Ok.next s c.put-stepped.result (record t { state = u; listeners = c.tell_poll.new.listeners }) c.args.trace.now c.put-stepped.new.trace} c.put-stepped.result is (
+    let is = c.put-stepped.ensures.made in
+    of_made {M = PollsTold (turn.Futures c.args.polled) c.in-Ok.next s c.put-stepped.result (record t { state = u; listeners = c.tell_poll.new.listeners }) c.args.trace.now.labels c.put-stepped.new.trace.labels} c.put-stepped.result is (
       (
         c.poll_next-made.result,
         (
-          c.put-stepped.ensures.in_trace is,
+          c.put-stepped.ensures.in_trace,
           λ x m pends.
               turns_asked x (turn.Futures c.args.polled) m s.state c.poll_next-made.result m t.state u told.whole.asked (c.poll_next-made.ensures.turns x m pends),
         ),
@@ -81,7 +80,7 @@ returns-in_default-clause-polled g c =
     let a = groups_before_work c.poll_next-made.new.worked in
     let told = c.in_default.ensures.told in
     let same = ap (λ k. k.listeners) c.poll_next-made.ensures.rest in
-    let is = sym c.is_made.ensures ∙ c.if-not-is_made.false in
+    let is = c.put-stepped.ensures.made in
     record {
       made = λ e. absurd (cc);
       nothing = λ e. absurd (cc);
@@ -97,7 +96,7 @@ returns-in_default-clause-polled g c =
           (
             c.poll_next-made.result,
             (
-              c.put-stepped.ensures.in_trace is,
+              c.put-stepped.ensures.in_trace,
               λ x m pends.
                   turns_part a t.state u t.listeners new told.part x (turn.Futures c.args.polled) m s.state c.poll_next-made.result m (c.poll_next-made.ensures.turns x m pends),
             ),
@@ -105,8 +104,3 @@ returns-in_default-clause-polled g c =
         ),
       );
     }
-
-pub returns-then-not-is_made-clause-polled : goal.returns-then-not-is_made-clause-polled
-returns-then-not-is_made-clause-polled g c =
-    let unmade = sym c.is_made.ensures ∙ c.if-not-is_made.true in
-    of_unmade c.put-stepped.result unmade (c.put-stepped.ensures.full unmade) (λ same. (same, (ap (λ k. k.listeners) c.poll_next-made.ensures.rest, c.poll_next-made.ensures.works.1)))

@@ -23,7 +23,7 @@ tell_run-told-requires-clause-stays g c = λ on.
     let s = c.args.store.now.state in
     let t = c.step_thread-stepped.new.store.state in
     let steps = c.step_thread-stepped.ensures.steps (sym c.is_made.ensures ∙ c.if-not-is_made.false) in
-    run_stays c.args.component.now c.args.thread s t c.step_thread-stepped.result c.args.trace.now c.step_thread-stepped.new.trace steps.makes c.requires.runs.order steps.works.1 c.requires.runs.current on
+    run_stays c.args.component.now c.args.thread s t c.step_thread-stepped.result c.args.trace.now.labels c.step_thread-stepped.new.trace.labels steps.makes c.requires.runs.order steps.works.1 c.requires.runs.current on
     ∙ (current_is s (turn.Run c.args.thread) c.requires.runs.current ∙ sym c.requires.running)
 
 pub tell_run-told-requires-clause-there : goal.tell_run-told-requires-clause-there
@@ -45,8 +45,8 @@ returns-clause-ran g c =
     let q = c.step_thread-stepped.result in
     let is = sym c.is_made.ensures ∙ c.if-not-is_made.false in
     let a = groups_before_run c.args.running.now in
-    let before = c.args.trace.now in
-    let after = c.step_thread-stepped.new.trace in
+    let before = c.args.trace.now.labels in
+    let after = c.step_thread-stepped.new.trace.labels in
     let steps = c.step_thread-stepped.ensures.steps is in
     let made = steps.makes in
     let told = c.in-Ok.ensures.told in
@@ -107,4 +107,4 @@ returns-in_default-clause-ran g c =
 pub returns-then-not-is_made-clause-ran : goal.returns-then-not-is_made-clause-ran
 returns-then-not-is_made-clause-ran g c =
     let unmade = sym c.is_made.ensures ∙ c.if-not-is_made.true in
-    of_unmade c.step_thread-stepped.result unmade (c.step_thread-stepped.ensures.full unmade) (λ same. (same, (c.step_thread-stepped.ensures.listeners, c.step_thread-stepped.ensures.tracked)))
+    of_unmade c.step_thread-stepped.result unmade (c.step_thread-stepped.ensures.full unmade) (λ same. c.step_thread-stepped.ensures.lacks unmade)

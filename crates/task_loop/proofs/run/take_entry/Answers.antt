@@ -21,13 +21,13 @@ returns-clause-taken g c =
     let p = turn.Take c.args.ended in
     let q = c.take-taken.result in
     let is = sym c.is_made.ensures ∙ c.if-not-is_made.false in
-    let works = c.take-taken.ensures.works (made_room q is) in
+    let works = c.take-taken.ensures.works in
     let told = c.in-Ok.ensures.told in
     let asked = told.whole.asked in
     let t = c.take-taken.new.w in
     let u = c.tell_work.new.core in
-    let before = c.args.trace.now in
-    let after = c.take-taken.new.trace in
+    let before = c.args.trace.now.labels in
+    let after = c.take-taken.new.trace.labels in
     of_made {M = TakesTold d b c.args.ended c.in-Ok.next s q (record s { state = u; listeners = c.tell_work.new.listeners }) before after} q is (
       (of_made q is (turned_asked d b p s.state t u asked q before after (c.take-taken.ensures.turned.made is)), works_asked s.state t u asked works.0),
       record {
@@ -49,10 +49,10 @@ returns-then-not-is_made-clause-taken g c =
     record {
       made = λ e. absurd (let no = sym unmade ∙ e in cc);
       nothing = λ e.
-          let there = subst (λ (w : StepResult). TakesBeside d c.args.trap_on_idle c.args.ended s w c.take-taken.new.w c.args.trace.now c.take-taken.new.trace) e turned in
+          let there = subst (λ (w : StepResult). TakesBeside d c.args.trap_on_idle c.args.ended s w c.take-taken.new.w c.args.trace.now.labels c.take-taken.new.trace.labels) e turned in
           let asked = subst (λ (v : StateView). IsAsked v) (sym (none_kept d c.args.trap_on_idle c.args.ended s c.take-taken.new.w (turned.nothing e).0)) c.requires.asked in
-          ((there, (c.take-taken.ensures.works (λ full. let no = sym e ∙ full in cc)).0), (refl, asked));
-      full = λ e. (turned.full e, (refl, c.take-taken.ensures.tracked));
+          ((there, c.take-taken.ensures.works.0), (refl, asked));
+      full = λ e. record { trace = turned.full e; listeners = refl; tracked = c.take-taken.ensures.works.1; wants = c.take-taken.ensures.full e };
       failed = λ e. absurd (turned.failed e);
     }
 
@@ -65,14 +65,14 @@ returns-in_default-clause-taken g c =
     let p = turn.Take c.args.ended in
     let q = c.take-taken.result in
     let is = sym c.is_made.ensures ∙ c.if-not-is_made.false in
-    let works = c.take-taken.ensures.works (made_room q is) in
+    let works = c.take-taken.ensures.works in
     let a = groups_before_work c.take-taken.new.worked in
     let told = c.in_default.ensures.told in
     let t = c.take-taken.new.w in
     let u = c.tell_work.new.core in
     let new = c.tell_work.new.listeners in
-    let before = c.args.trace.now in
-    let after = c.take-taken.new.trace in
+    let before = c.args.trace.now.labels in
+    let after = c.take-taken.new.trace.labels in
     record {
       made = λ e. absurd (cc);
       nothing = λ e. absurd (cc);

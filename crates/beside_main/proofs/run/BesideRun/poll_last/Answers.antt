@@ -11,7 +11,7 @@ pub poll_last-requires : goal.poll_last-requires
 poll_last-requires g c = record { may = record { may = c.requires.able.may; apart = c.requires.beside; number = c.requires.next.0; next = c.requires.next.1 } }
 
 pub note_over-requires : goal.note_over-requires
-note_over-requires g c = last_open c.args.component.now c.args.self.now c.requires.able c.args.polled c.poll_last.new.beside c.in_ok-poll_last.ensures.asked
+note_over-requires g c = last_open c.args.component.now c.args.self.now c.requires.able c.args.polled c.poll_last.new.beside c.in_ok-poll_last.ensures.polls.found c.in_ok-poll_last.ensures.polls.asked
 
 pub returns : goal.returns
 returns g c =
@@ -23,5 +23,5 @@ returns g c =
       polls = subst (λ (d : BesideRun _). PolledNext c.args.component.now c.args.polled a d) (sym c.note_over.ensures.rest)
           (polled_last c.args.component.now c.args.polled a b made.beside c.requires.able (omega (arith, c.requires.left)) refl
           (cells_then a.cells.list.items made.beside.list.items last.list.items c.poll_last.ensures.beside.0 c.note_over.ensures.cells.0) c.poll_last.ensures.keeps c.in_ok-poll_last.ensures.polls
-          c.in_ok-poll_last.ensures.asked c.poll_last.ensures.beside.1 c.note_over.ensures.cells.1 c.in_ok-note_over.ensures.calls);
+          c.poll_last.ensures.beside.1 c.note_over.ensures.cells.1 c.in_ok-note_over.ensures.calls);
     }

@@ -20,4 +20,4 @@ returns c =
     let from : c.saturating_sub-from.result ≡ length ns - h.count = omega (arith, c.saturating_sub-from.ensures, c.len.ensures, c.into.ensures, c.deref-2.ensures.len, ap length c.deref-2.ensures.value) in
     let own : c.split_at.result.1.now ≡ drop (length ns - h.count) ns = c.split_at.ensures.back ∙ ap₂ (λ i (xs : List ℕ). drop i xs) from c.deref-2.ensures.value in
     rw (← c.self.view_is)
-    (ap (λ l. Some l) (c.open.ensures ∙ ap (λ (xs : List ℕ). label_of h xs) own) ∙ sym (last_label hs ns h c.self.invariant at))
+    (ap (λ l. Some l) (c.open.ensures ∙ ap (λ (xs : List ℕ). label_of h xs) own) ∙ sym (last_label hs ns h c.self.invariant.whole at))

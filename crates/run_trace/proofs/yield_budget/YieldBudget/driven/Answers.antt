@@ -8,7 +8,7 @@ use Rattle.run_trace.proofs.yield_budget.YieldBudget.driven.Goals as goal
 
 pub labels-preserved : goal.labels-preserved
 labels-preserved c =
-    let trace = c.args.trace.now in
+    let trace = c.args.trace.now.labels in
     let from = c.args.from in
     let n = c.labels.place - from in
     let b = c.args.self.passes in

@@ -1,10 +1,10 @@
 -- What the turns gave, a drive gives.
-use Rattle.std.proofs.Common.{refl}
+use Rattle.std.proofs.Common.{ap, refl}
 use Rattle.task_loop.proofs.HasRunLemmas.{counted_on, drives_failed, has_failed, has_lost, never_rests, never_yields, none_on}
 use Rattle.task_loop.proofs.run.RunConcurrent.drive.Goals as goal
 use Rattle.task_loop.proofs.run.RunConcurrent.drive.Goals.{in-Idle, in_default}
 use Rattle.task_loop.specs.HasRun.{at}
-use Rattle.machine_data.specs.Write.{set_trapped}
+use Rattle.task_store.specs.declared.store.Store.{Store}
 
 pub returns-in-Ends-clause-drives : goal.returns-in-Ends-clause-drives
 returns-in-Ends-clause-drives g c =
@@ -28,9 +28,8 @@ pub unreachable-requires-in-Yields : goal.unreachable-requires-in-Yields
 unreachable-requires-in-Yields g c = absurd (never_yields g.M.MainTask.says g.H.HostWork.course c.args.component.now _ _ c.args.steps c.in-Ok.stop c.args.self.now.yield_budget c.go_on.new.self.yield_budget c.in-Yields.is c.in-Ok.ensures.gone)
 
 pub returns-in-Err-NoMemory-clause-drives : goal.returns-in-Err-NoMemory-clause-drives
-unfolding set_trapped
 returns-in-Err-NoMemory-clause-drives g c =
-    rw (← c.trace.view_is) (has_lost _ _ _ _ _ c.args.steps c.go_on.new.store (rw c.in-Err-NoMemory.field-0-is at c.in-Err-NoMemory.ensures.gone) c.set_trapped.ensures.told (rw c.set_trapped.ensures.rest refl), c.go_on.ensures.kept refl)
+    rw (← c.trace.view_is) (has_lost _ _ _ _ _ c.args.steps c.trace.inside.labels.spare c.go_on.new.store (rw c.in-Err-NoMemory.field-0-is at c.in-Err-NoMemory.ensures.gone) c.set_trapped.ensures.told (ap (λ (st : Store _ _ _). st.state) c.set_trapped.ensures.rest), c.go_on.ensures.kept refl)
 
 pub returns-in-Err-HookFailed-clause-drives : goal.returns-in-Err-HookFailed-clause-drives
 returns-in-Err-HookFailed-clause-drives g c =

@@ -1,15 +1,15 @@
 -- Each turn adds to the run, until it is over or the policy stops it.
 use Rattle.laws_labels.specs.Own.{rests_by}
 use Rattle.run_trace.specs.YieldBudget.{counted, yields_before}
-use Rattle.std.proofs.Common.{ap, arith, refl, subst, sym, ◌∙◌}
+use Rattle.std.proofs.Common.{ap, arith, inl, inr, refl, subst, sym, ◌∙◌}
 use Rattle.std.specs.Prelude.{Option, false, true, ◌+◌, ◌<◌, ◌^◌, ◌≡◌}
 use Rattle.task_loop.proofs.HasPolledLemmas.{polled_idles, polled_none, polled_out, polled_over, polled_rests, polled_yields}
-use Rattle.task_loop.proofs.HasRunLemmas.{come_computed, come_first, come_goes, come_lost, come_may, come_none, come_out, come_over, come_rests, come_short, come_stopped, goes_on_by, opened, over_told, stops_by}
+use Rattle.task_loop.proofs.HasRunLemmas.{come_computed, come_first, come_full, come_goes, come_lost, come_may, come_none, come_out, come_over, come_rests, come_short, come_stopped, goes_on_by, opened, over_told, stops_by}
 use Rattle.task_loop.proofs.PausedLemmas.{spent_data, spent_none, poll_goes}
 use Rattle.task_loop.proofs.RunPollLemmas.{and_false}
 use Rattle.task_loop.proofs.ToldLemmas.{current_is, group_computed}
 use Rattle.task_loop.proofs.run.RunConcurrent.go_on.Goals as goal
-use Rattle.task_loop.specs.HasRun.{GoesTo, HasTurned, at, numbers, setting, state}
+use Rattle.task_loop.specs.HasRun.{At, GoesTo, HasTurned, IsLost, at, numbers, setting, state}
 use Rattle.task_loop.specs.declared.run.RunConcurrent.{RunConcurrent}
 use Rattle.task_loop.specs.declared.run.Stop.TheVariants as stop
 use Rattle.machine_data.specs.declared.outcome.Outcome.TheVariants as outcome
@@ -27,8 +27,9 @@ pub turns-init : goal.turns-init
 turns-init g c =
     record {
       come = come_first _ _ _ _ c.requires.may;
+      spare = omega arith;
       kept = λ driven. refl;
-      spent = λ polled. spent_none c.args.self.now.yield_budget.passes c.args.self.now.yield_budget.since c.args.trace.now;
+      spent = λ polled. spent_none c.args.self.now.yield_budget.passes c.args.self.now.yield_budget.since c.args.trace.now.labels;
       few = omega arith;
       running = c.group_now-running.ensures ∙ current_is c.args.store.now.state (turn_of c.args.self.now.last) c.requires.may.may_turn.running;
     }
@@ -38,8 +39,8 @@ turn-stepped-requires g c =
     let says = g.M.MainTask.says in
     let course = g.H.HostWork.course in
     let d = c.args.component.now in
-    let a = at c.args.self.now c.args.main.now c.args.store.now c.args.trace.now in
-    let u = at c.turns.self c.turns.main c.turns.store c.turns.trace in
+    let a = at c.args.self.now c.args.main.now c.args.store.now c.args.trace.now.labels in
+    let u = at c.turns.self c.turns.main c.turns.store c.turns.trace.labels in
     let n = c.turns.added in
     let come = c.turns.invariant.come in
     let few = c.turns.invariant.come.on.few in
@@ -58,11 +59,11 @@ compute-requires-clause-order g c =
     let says = g.M.MainTask.says in
     let course = g.H.HostWork.course in
     let d = c.args.component.now in
-    let a = at c.args.self.now c.args.main.now c.args.store.now c.args.trace.now in
-    let u = at c.turns.self c.turns.main c.turns.store c.turns.trace in
+    let a = at c.args.self.now c.args.main.now c.args.store.now c.args.trace.now.labels in
+    let u = at c.turns.self c.turns.main c.turns.store c.turns.trace.labels in
     let n = c.turns.added in
     let come = c.turns.invariant.come in
-    let v = at c.turns.self c.turn-stepped.new.main c.turn-stepped.new.store c.turn-stepped.new.trace in
+    let v = at c.turns.self c.turn-stepped.new.main c.turn-stepped.new.store c.turn-stepped.new.trace.labels in
     let r = c.turn-stepped.new.running in
     let q = c.turn-stepped.result in
     let made = made_else q c.in_default.not-Nothing c.in_default.not-Full c.in_default.not-HookFailed in
@@ -76,11 +77,11 @@ compute-requires-clause-runs g c =
     let says = g.M.MainTask.says in
     let course = g.H.HostWork.course in
     let d = c.args.component.now in
-    let a = at c.args.self.now c.args.main.now c.args.store.now c.args.trace.now in
-    let u = at c.turns.self c.turns.main c.turns.store c.turns.trace in
+    let a = at c.args.self.now c.args.main.now c.args.store.now c.args.trace.now.labels in
+    let u = at c.turns.self c.turns.main c.turns.store c.turns.trace.labels in
     let n = c.turns.added in
     let come = c.turns.invariant.come in
-    let v = at c.turns.self c.turn-stepped.new.main c.turn-stepped.new.store c.turn-stepped.new.trace in
+    let v = at c.turns.self c.turn-stepped.new.main c.turn-stepped.new.store c.turn-stepped.new.trace.labels in
     let r = c.turn-stepped.new.running in
     let q = c.turn-stepped.result in
     let made = made_else q c.in_default.not-Nothing c.in_default.not-Full c.in_default.not-HookFailed in
@@ -94,8 +95,8 @@ turns-preserved g c =
     let says = g.M.MainTask.says in
     let course = g.H.HostWork.course in
     let d = c.args.component.now in
-    let a = at c.args.self.now c.args.main.now c.args.store.now c.args.trace.now in
-    let u = at c.turns.self c.turns.main c.turns.store c.turns.trace in
+    let a = at c.args.self.now c.args.main.now c.args.store.now c.args.trace.now.labels in
+    let u = at c.turns.self c.turns.main c.turns.store c.turns.trace.labels in
     let n = c.turns.added in
     let come = c.turns.invariant.come in
     let stops = g.P.Policy.YIELDS in
@@ -103,7 +104,7 @@ turns-preserved g c =
     let b = c.turns.self.yield_budget.passes in
     let k = c.turns.self.yield_budget.since in
     let spent = c.turns.invariant.spent in
-    let v = at c.turns.self c.turn-stepped.new.main c.turn-stepped.new.store c.turn-stepped.new.trace in
+    let v = at c.turns.self c.turn-stepped.new.main c.turn-stepped.new.store c.turn-stepped.new.trace.labels in
     let r = c.turn-stepped.new.running in
     let q = c.turn-stepped.result in
     let made = made_else q c.in_default.not-Nothing c.in_default.not-Full c.in_default.not-HookFailed in
@@ -112,7 +113,8 @@ turns-preserved g c =
     let goes = come_goes says course d a u n come v r q made ongoing op_result c.turn-stepped.ensures.keeps in
     let all = c.in-Ok.ensures.ok in
     record {
-      come = come_computed says course d a (record v { turn = turn_of q }) (n + 1) goes c.compute.new.w c.compute.new.trace c.in-Ok.all all.on all.computes all.still c.in-Ok.ensures.works
+      spare = omega (arith, c.turns.invariant.spare, c.turn-stepped.ensures.spare, c.in-Ok.ensures.spare);
+      come = come_computed says course d a (record v { turn = turn_of q }) (n + 1) goes c.compute.new.w c.compute.new.trace.labels c.in-Ok.all all.on all.computes all.still c.in-Ok.ensures.works
           (λ last knows. g.met.M.MainTask.stays c.turn-stepped.new.main c.turn-stepped.new.store.state c.compute.new.w last knows);
       kept = λ driven. c.spent_by-self.ensures.kept driven ∙ c.turns.invariant.kept driven;
       spent = λ polled.
@@ -122,9 +124,9 @@ turns-preserved g c =
           let since = c.spent_by-self.ensures.since polled ∙ ap (λ (o : Option Mark). counted k o) next in
           let more = poll_goes (setting says course d a) (state says course d a) a.trace (numbers says course d a) yield_budget c.args.steps u.turn (says.part u.main) u.store.state u.trace n b k come.on (spent polled) (says.part v.main) v.store.state v.trace (turn_of q)
           (opened says course d a u n come v r q made ongoing op_result) stays c.spent_by-self.result.passes c.spent_by-self.result.since rests since (c.spent_by-self.ensures.passes polled) in
-          spent_data yield_budget.passes yield_budget.since a.trace c.turn-stepped.new.trace c.spent_by-self.result.passes c.spent_by-self.result.since more all.computes.labels c.compute.new.trace all.computes.computing all.computes.trace (c.spent_by-self.ensures.passes polled);
+          spent_data yield_budget.passes yield_budget.since a.trace c.turn-stepped.new.trace.labels c.spent_by-self.result.passes c.spent_by-self.result.since more all.computes.labels c.compute.new.trace.labels all.computes.computing all.computes.trace (c.spent_by-self.ensures.passes polled);
       few = all.few;
-      running = op_result.group made ∙ sym (group_computed d c.turn-stepped.new.store.state c.turn-stepped.new.trace (n + 1) c.compute.new.w c.compute.new.trace c.in-Ok.all (setting says course d a) refl (ap (λ (ts : Tags). ts.tracked) c.in-Ok.ensures.works.tags) (turn_of q) all.computes all.still);
+      running = op_result.group made ∙ sym (group_computed d c.turn-stepped.new.store.state c.turn-stepped.new.trace.labels (n + 1) c.compute.new.w c.compute.new.trace.labels c.in-Ok.all (setting says course d a) refl (ap (λ (ts : Tags). ts.tracked) c.in-Ok.ensures.works.tags) (turn_of q) all.computes all.still);
     }
 
 -- ---- What it has resulted in
@@ -134,8 +136,8 @@ returns-then-yields_by-clause-gone g c =
     let says = g.M.MainTask.says in
     let course = g.H.HostWork.course in
     let d = c.args.component.now in
-    let a = at c.args.self.now c.args.main.now c.args.store.now c.args.trace.now in
-    let u = at c.turns.self c.turns.main c.turns.store c.turns.trace in
+    let a = at c.args.self.now c.args.main.now c.args.store.now c.args.trace.now.labels in
+    let u = at c.turns.self c.turns.main c.turns.store c.turns.trace.labels in
     let n = c.turns.added in
     let come = c.turns.invariant.come in
     let stops = g.P.Policy.YIELDS in
@@ -153,8 +155,8 @@ returns-in-Nothing-clause-gone g c =
     let says = g.M.MainTask.says in
     let course = g.H.HostWork.course in
     let d = c.args.component.now in
-    let a = at c.args.self.now c.args.main.now c.args.store.now c.args.trace.now in
-    let u = at c.turns.self c.turns.main c.turns.store c.turns.trace in
+    let a = at c.args.self.now c.args.main.now c.args.store.now c.args.trace.now.labels in
+    let u = at c.turns.self c.turns.main c.turns.store c.turns.trace.labels in
     let n = c.turns.added in
     let come = c.turns.invariant.come in
     let stops = g.P.Policy.YIELDS in
@@ -162,12 +164,12 @@ returns-in-Nothing-clause-gone g c =
     let b = c.turns.self.yield_budget.passes in
     let k = c.turns.self.yield_budget.since in
     let spent = c.turns.invariant.spent in
-    let v = at c.turns.self c.turn-stepped.new.main c.turn-stepped.new.store c.turn-stepped.new.trace in
+    let v = at c.turns.self c.turn-stepped.new.main c.turn-stepped.new.store c.turn-stepped.new.trace.labels in
     let r = c.turn-stepped.new.running in
     let op_result = subst (λ (q : StepResult). HasTurned says course d q r u v) c.in-Nothing.is (c.turn-stepped.ensures.turned.nothing c.in-Nothing.is) in
     let yield_budget' = c.ends.new.self.yield_budget in
     rw c.ends.ensures.stop
-    (subst (λ (w : RunConcurrent). GoesTo says course d stops c.args.steps (stop.Ends outcome.Idle) yield_budget a (at w c.turn-stepped.new.main c.turn-stepped.new.store c.turn-stepped.new.trace) yield_budget') (sym c.ends.ensures.new)
+    (subst (λ (w : RunConcurrent). GoesTo says course d stops c.args.steps (stop.Ends outcome.Idle) yield_budget a (at w c.turn-stepped.new.main c.turn-stepped.new.store c.turn-stepped.new.trace.labels) yield_budget') (sym c.ends.ensures.new)
     (goes_on_by says course d a v c.args.steps stops (stop.Ends outcome.Idle) yield_budget yield_budget' (λ driven. come_none says course d a u n come v r c.args.steps (omega arith) op_result)
     (λ polled. polled_none says course d a u n come yield_budget c.args.steps b k (spent polled) yield_budget' v r (omega arith) op_result (c.ends.ensures.since polled) (c.ends.ensures.passes polled))))
 
@@ -176,9 +178,9 @@ outcome_in-requires g c =
     let says = g.M.MainTask.says in
     let course = g.H.HostWork.course in
     let d = c.args.component.now in
-    let a = at c.args.self.now c.args.main.now c.args.store.now c.args.trace.now in
-    let u = at c.turns.self c.turns.main c.turns.store c.turns.trace in
-    let v = at c.turns.self c.turn-stepped.new.main c.turn-stepped.new.store c.turn-stepped.new.trace in
+    let a = at c.args.self.now c.args.main.now c.args.store.now c.args.trace.now.labels in
+    let u = at c.turns.self c.turns.main c.turns.store c.turns.trace.labels in
+    let v = at c.turns.self c.turn-stepped.new.main c.turn-stepped.new.store c.turn-stepped.new.trace.labels in
     let r = c.turn-stepped.new.running in
     over_told says course d a u c.turns.added c.turns.invariant.come v r stepped.Over refl refl (subst (λ (q : StepResult). HasTurned says course d q r u v) c.in-Over.is (c.turn-stepped.ensures.turned.made (ap is_made c.in-Over.is)))
 
@@ -187,8 +189,8 @@ returns-in-Over-clause-gone g c =
     let says = g.M.MainTask.says in
     let course = g.H.HostWork.course in
     let d = c.args.component.now in
-    let a = at c.args.self.now c.args.main.now c.args.store.now c.args.trace.now in
-    let u = at c.turns.self c.turns.main c.turns.store c.turns.trace in
+    let a = at c.args.self.now c.args.main.now c.args.store.now c.args.trace.now.labels in
+    let u = at c.turns.self c.turns.main c.turns.store c.turns.trace.labels in
     let n = c.turns.added in
     let come = c.turns.invariant.come in
     let stops = g.P.Policy.YIELDS in
@@ -196,14 +198,14 @@ returns-in-Over-clause-gone g c =
     let b = c.turns.self.yield_budget.passes in
     let k = c.turns.self.yield_budget.since in
     let spent = c.turns.invariant.spent in
-    let v = at c.turns.self c.turn-stepped.new.main c.turn-stepped.new.store c.turn-stepped.new.trace in
+    let v = at c.turns.self c.turn-stepped.new.main c.turn-stepped.new.store c.turn-stepped.new.trace.labels in
     let r = c.turn-stepped.new.running in
     let o = c.outcome_in.result in
     let op_result = subst (λ (q : StepResult). HasTurned says course d q r u v) c.in-Over.is (c.turn-stepped.ensures.turned.made (ap is_made c.in-Over.is)) in
     let ends = c.ends-in-Over in
     let yield_budget' = ends.new.self.yield_budget in
     rw ends.ensures.stop
-    (subst (λ (w : RunConcurrent). GoesTo says course d stops c.args.steps (stop.Ends o) yield_budget a (at w c.turn-stepped.new.main c.turn-stepped.new.store c.turn-stepped.new.trace) yield_budget') (sym ends.ensures.new)
+    (subst (λ (w : RunConcurrent). GoesTo says course d stops c.args.steps (stop.Ends o) yield_budget a (at w c.turn-stepped.new.main c.turn-stepped.new.store c.turn-stepped.new.trace.labels) yield_budget') (sym ends.ensures.new)
     (goes_on_by says course d a (record v { turn = turn.Over }) c.args.steps stops (stop.Ends o) yield_budget yield_budget' (λ driven. come_over says course d a u n come v r c.args.steps stepped.Over o (omega arith) refl refl c.outcome_in.ensures op_result)
     (λ polled. polled_over says course d a u n come yield_budget c.args.steps b k (spent polled) yield_budget' v r stepped.Over o (omega arith) refl refl c.outcome_in.ensures op_result (ends.ensures.since polled) (ends.ensures.passes polled))))
 
@@ -212,8 +214,8 @@ returns-then-rests-clause-gone g c =
     let says = g.M.MainTask.says in
     let course = g.H.HostWork.course in
     let d = c.args.component.now in
-    let a = at c.args.self.now c.args.main.now c.args.store.now c.args.trace.now in
-    let u = at c.turns.self c.turns.main c.turns.store c.turns.trace in
+    let a = at c.args.self.now c.args.main.now c.args.store.now c.args.trace.now.labels in
+    let u = at c.turns.self c.turns.main c.turns.store c.turns.trace.labels in
     let n = c.turns.added in
     let come = c.turns.invariant.come in
     let stops = g.P.Policy.YIELDS in
@@ -221,7 +223,7 @@ returns-then-rests-clause-gone g c =
     let b = c.turns.self.yield_budget.passes in
     let k = c.turns.self.yield_budget.since in
     let spent = c.turns.invariant.spent in
-    let v = at c.turns.self c.turn-stepped.new.main c.turn-stepped.new.store c.turn-stepped.new.trace in
+    let v = at c.turns.self c.turn-stepped.new.main c.turn-stepped.new.store c.turn-stepped.new.trace.labels in
     let r = c.turn-stepped.new.running in
     let q = c.turn-stepped.result in
     let made = made_else q c.in_default.not-Nothing c.in_default.not-Full c.in_default.not-HookFailed in
@@ -242,8 +244,8 @@ returns-then-is_idle-clause-gone g c =
     let says = g.M.MainTask.says in
     let course = g.H.HostWork.course in
     let d = c.args.component.now in
-    let a = at c.args.self.now c.args.main.now c.args.store.now c.args.trace.now in
-    let u = at c.turns.self c.turns.main c.turns.store c.turns.trace in
+    let a = at c.args.self.now c.args.main.now c.args.store.now c.args.trace.now.labels in
+    let u = at c.turns.self c.turns.main c.turns.store c.turns.trace.labels in
     let n = c.turns.added in
     let come = c.turns.invariant.come in
     let stops = g.P.Policy.YIELDS in
@@ -255,7 +257,7 @@ returns-then-is_idle-clause-gone g c =
     let ends = c.ends-then-is_idle in
     let yield_budget' = ends.new.self.yield_budget in
     rw ends.ensures.stop
-    (subst (λ (w : RunConcurrent). GoesTo says course d stops c.args.steps (stop.Ends outcome.Idle) yield_budget a (at w c.turns.main c.turns.store c.turns.trace) yield_budget') (sym ends.ensures.new)
+    (subst (λ (w : RunConcurrent). GoesTo says course d stops c.args.steps (stop.Ends outcome.Idle) yield_budget a (at w c.turns.main c.turns.store c.turns.trace.labels) yield_budget') (sym ends.ensures.new)
     (goes_on_by says course d a u c.args.steps stops (stop.Ends outcome.Idle) yield_budget yield_budget' (λ driven. come_rests says course d a u n come c.args.steps (omega arith) rests)
     (λ polled. polled_idles says course d a u n come yield_budget c.args.steps b k (spent polled) yield_budget' (omega arith) rests (ends.ensures.since polled) (ends.ensures.passes polled))))
 
@@ -264,8 +266,8 @@ returns-clause-gone g c =
     let says = g.M.MainTask.says in
     let course = g.H.HostWork.course in
     let d = c.args.component.now in
-    let a = at c.args.self.now c.args.main.now c.args.store.now c.args.trace.now in
-    let u = at c.turns.self c.turns.main c.turns.store c.turns.trace in
+    let a = at c.args.self.now c.args.main.now c.args.store.now c.args.trace.now.labels in
+    let u = at c.turns.self c.turns.main c.turns.store c.turns.trace.labels in
     let n = c.turns.added in
     let come = c.turns.invariant.come in
     let stops = g.P.Policy.YIELDS in
@@ -277,7 +279,7 @@ returns-clause-gone g c =
     let ends = c.ends-2 in
     let yield_budget' = ends.new.self.yield_budget in
     rw ends.ensures.stop
-    (subst (λ (w : RunConcurrent). GoesTo says course d stops c.args.steps (stop.Ends outcome.OutOfSteps) yield_budget a (at w c.turns.main c.turns.store c.turns.trace) yield_budget') (sym ends.ensures.new)
+    (subst (λ (w : RunConcurrent). GoesTo says course d stops c.args.steps (stop.Ends outcome.OutOfSteps) yield_budget a (at w c.turns.main c.turns.store c.turns.trace.labels) yield_budget') (sym ends.ensures.new)
     (goes_on_by says course d a u c.args.steps stops (stop.Ends outcome.OutOfSteps) yield_budget yield_budget' (λ driven. come_out says course d a u n come c.args.steps (omega arith) moves)
     (λ polled. polled_out says course d a u n come yield_budget c.args.steps b k (spent polled) yield_budget' (omega arith) moves (ends.ensures.since polled) (ends.ensures.passes polled))))
 
@@ -288,19 +290,25 @@ returns-in-Full-clause-gone g c =
     let says = g.M.MainTask.says in
     let course = g.H.HostWork.course in
     let d = c.args.component.now in
-    let a = at c.args.self.now c.args.main.now c.args.store.now c.args.trace.now in
-    let u = at c.turns.self c.turns.main c.turns.store c.turns.trace in
-    let v = at c.turns.self c.turn-stepped.new.main c.turn-stepped.new.store c.turn-stepped.new.trace in
-    come_lost says course d a u c.turns.added c.turns.invariant.come v c.args.steps (omega arith) (c.turn-stepped.ensures.turned.full c.in-Full.is)
+    let a = at c.args.self.now c.args.main.now c.args.store.now c.args.trace.now.labels in
+    let u = at c.turns.self c.turns.main c.turns.store c.turns.trace.labels in
+    let v = at c.turns.self c.turn-stepped.new.main c.turn-stepped.new.store c.turn-stepped.new.trace.labels in
+    let room = c.args.trace.now.spare in
+    let n = c.turns.added in
+    let come = c.turns.invariant.come in
+    elim (c.turn-stepped.ensures.turned.full c.in-Full.is) [
+      | inl lacks ↦ come_lost says course d a u n come v c.args.steps room (omega arith) lacks
+      | inr short ↦ subst (λ (w : At _ _ _ _). IsLost says course d c.args.steps room a w.main w.trace w.store.listeners w.store.state) (sym short.same) (come_full says course d a u n come c.args.steps room (omega arith) (omega (arith, c.turns.invariant.spare, short.none)))
+    ]
 
 pub returns-in-HookFailed-clause-gone : goal.returns-in-HookFailed-clause-gone
 returns-in-HookFailed-clause-gone g c =
     let says = g.M.MainTask.says in
     let course = g.H.HostWork.course in
     let d = c.args.component.now in
-    let a = at c.args.self.now c.args.main.now c.args.store.now c.args.trace.now in
-    let u = at c.turns.self c.turns.main c.turns.store c.turns.trace in
-    let v = at c.turns.self c.turn-stepped.new.main c.turn-stepped.new.store c.turn-stepped.new.trace in
+    let a = at c.args.self.now c.args.main.now c.args.store.now c.args.trace.now.labels in
+    let u = at c.turns.self c.turns.main c.turns.store c.turns.trace.labels in
+    let v = at c.turns.self c.turn-stepped.new.main c.turn-stepped.new.store c.turn-stepped.new.trace.labels in
     come_stopped says course d a u c.turns.added c.turns.invariant.come v c.args.steps (omega arith) (c.turn-stepped.ensures.turned.failed c.in-HookFailed.is)
 
 pub returns-in_default-compute-clause-gone : goal.returns-in_default-compute-clause-gone
@@ -308,18 +316,18 @@ returns-in_default-compute-clause-gone g c =
     let says = g.M.MainTask.says in
     let course = g.H.HostWork.course in
     let d = c.args.component.now in
-    let a = at c.args.self.now c.args.main.now c.args.store.now c.args.trace.now in
-    let u = at c.turns.self c.turns.main c.turns.store c.turns.trace in
+    let a = at c.args.self.now c.args.main.now c.args.store.now c.args.trace.now.labels in
+    let u = at c.turns.self c.turns.main c.turns.store c.turns.trace.labels in
     let n = c.turns.added in
     let come = c.turns.invariant.come in
-    let v = at c.turns.self c.turn-stepped.new.main c.turn-stepped.new.store c.turn-stepped.new.trace in
+    let v = at c.turns.self c.turn-stepped.new.main c.turn-stepped.new.store c.turn-stepped.new.trace.labels in
     let r = c.turn-stepped.new.running in
     let q = c.turn-stepped.result in
     let made = made_else q c.in_default.not-Nothing c.in_default.not-Full c.in_default.not-HookFailed in
     let op_result = c.turn-stepped.ensures.turned.made made in
     let ongoing = made_open q made c.in_default.not-Over in
     let goes = come_goes says course d a u n come v r q made ongoing op_result c.turn-stepped.ensures.keeps in
-    come_short says course d a (record v { turn = turn_of q }) (n + 1) goes c.args.steps c.compute.new.trace c.in_default-compute.ensures.err c.compute.new.w.tags.tracked (ap (λ (ts : Tags). ts.tracked) c.in_default-compute.ensures.works.tags)
+    come_short says course d a (record v { turn = turn_of q }) (n + 1) goes c.args.steps c.args.trace.now.spare c.turn-stepped.new.trace refl (omega (arith, c.turns.invariant.spare, c.turn-stepped.ensures.spare)) c.compute.new.w c.compute.new.trace c.in_default-compute.ensures.err (ap (λ (ts : Tags). ts.tracked) c.in_default-compute.ensures.works.tags)
 
 -- ---- What stays
 

@@ -1,17 +1,16 @@
 -- What the turns gave, a poll gives.
-use Rattle.std.proofs.Common.{refl}
+use Rattle.std.proofs.Common.{ap, refl}
 use Rattle.task_loop.proofs.HasRunLemmas.{has_failed, has_lost, polls_failed, polls_on}
 use Rattle.task_loop.proofs.run.RunConcurrent.poll.Goals as goal
-use Rattle.machine_data.specs.Write.{set_trapped}
+use Rattle.task_store.specs.declared.store.Store.{Store}
 
 pub returns-in-Ok-clause-polls : goal.returns-in-Ok-clause-polls
 returns-in-Ok-clause-polls g c =
     rw (← c.trace.view_is) (rw c.answer_of.ensures (polls_on _ _ _ _ _ c.args.steps g.G.TaskGroupHook.listens c.in-Ok.stop c.args.self.now.yield_budget c.go_on.new.self.yield_budget c.in-Ok.ensures.gone))
 
 pub returns-in-Err-NoMemory-clause-polls : goal.returns-in-Err-NoMemory-clause-polls
-unfolding set_trapped
 returns-in-Err-NoMemory-clause-polls g c =
-    rw (← c.trace.view_is) (has_lost _ _ _ _ _ c.args.steps c.go_on.new.store (rw c.in-Err-NoMemory.field-0-is at c.in-Err-NoMemory.ensures.gone) c.set_trapped.ensures.told (rw c.set_trapped.ensures.rest refl))
+    rw (← c.trace.view_is) (has_lost _ _ _ _ _ c.args.steps c.trace.inside.labels.spare c.go_on.new.store (rw c.in-Err-NoMemory.field-0-is at c.in-Err-NoMemory.ensures.gone) c.set_trapped.ensures.told (ap (λ (st : Store _ _ _). st.state) c.set_trapped.ensures.rest))
 
 pub returns-in-Err-HookFailed-clause-polls : goal.returns-in-Err-HookFailed-clause-polls
 returns-in-Err-HookFailed-clause-polls g c =

@@ -3,7 +3,7 @@ use Rattle.ops_turns.proofs.SteppedLemmas.{made_else}
 use Rattle.ops_turns.specs.StepResult.{turn_of}
 use Rattle.ops_turns.specs.Turn.{given}
 use Rattle.ops_turns.specs.declared.made.StepResult.{StepResult}
-use Rattle.std.proofs.Common.{arith, subst, sym, ◌∙◌}
+use Rattle.std.proofs.Common.{arith, inl, inr, refl, subst, sym, ◌∙◌}
 use Rattle.std.specs.Prelude.{Some, ◌+◌, ◌<◌, ◌^◌}
 use Rattle.task_loop.proofs.HasRunLemmas.{come_first, come_may}
 use Rattle.task_loop.proofs.SingleStepLemmas.{once_idle, once_made}
@@ -18,7 +18,7 @@ turn-stepped-requires g c =
     let says = g.M.MainTask.says in
     let course = g.H.HostWork.course in
     let d = c.args.component.now in
-    let a = at c.args.self.now c.args.main.now c.args.store.now c.trace.inside.labels in
+    let a = at c.args.self.now c.args.main.now c.args.store.now c.trace.inside.labels.labels in
     let may : MayRun says course d a = rw (← c.trace.view_is) at c.requires.may in
     let few = may.few in
     let room : given c.args.store.now.state.core + 4 < 2 ^ 61 = omega (arith, few) in
@@ -29,15 +29,18 @@ returns-clause-stepped g c =
     let says = g.M.MainTask.says in
     let course = g.H.HostWork.course in
     let d = c.args.component.now in
-    let a = at c.args.self.now c.args.main.now c.args.store.now c.trace.inside.labels in
-    let v = at c.args.self.now c.turn-stepped.new.main c.turn-stepped.new.store c.turn-stepped.new.trace in
+    let a = at c.args.self.now c.args.main.now c.args.store.now c.trace.inside.labels.labels in
+    let v = at c.args.self.now c.turn-stepped.new.main c.turn-stepped.new.store c.turn-stepped.new.trace.labels in
     let r = c.turn-stepped.new.running in
     let q = c.turn-stepped.result in
     let may : MayRun says course d a = rw (← c.trace.view_is) at c.requires.may in
     rw (← c.trace.view_is) (elim c.match-stepped.branch [
       | in-Nothing w ↦
           rw (w.result-is, w.self-is) (once_idle says course d a v r (subst (λ (p : StepResult). HasTurned says course d p r a v) w.in-Nothing.is (c.turn-stepped.ensures.turned.nothing w.in-Nothing.is)))
-      | in-Full w ↦ rw (w.result-is, w.self-is) (c.turn-stepped.ensures.turned.full w.in-Full.is)
+      | in-Full w ↦ rw (w.result-is, w.self-is) (elim (c.turn-stepped.ensures.turned.full w.in-Full.is) [
+        | inl lacks ↦ inl lacks
+        | inr short ↦ inr short.same
+      ])
       | in-HookFailed w ↦ rw (w.result-is, w.self-is) (c.turn-stepped.ensures.turned.failed w.in-HookFailed.is)
       | in_default w ↦
           let made = made_else q w.in_default.not-Nothing w.in_default.not-Full w.in_default.not-HookFailed in
@@ -53,4 +56,13 @@ returns-clause-keeps g c =
       | in-Full w ↦ rw w.self-is (record { script = kept.script; idle = kept.idle; constants = kept.constants })
       | in-HookFailed w ↦ rw w.self-is (record { script = kept.script; idle = kept.idle; constants = kept.constants })
       | in_default w ↦ rw w.self-is (record { script = kept.script; idle = kept.idle; constants = kept.constants })
+    ]
+
+pub returns-clause-rest : goal.returns-clause-rest
+returns-clause-rest g c =
+    elim c.match-stepped.branch [
+      | in-Nothing w ↦ rw w.self-is refl
+      | in-Full w ↦ rw w.self-is refl
+      | in-HookFailed w ↦ rw w.self-is refl
+      | in_default w ↦ rw w.self-is refl
     ]

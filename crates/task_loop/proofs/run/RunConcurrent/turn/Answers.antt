@@ -1,23 +1,24 @@
 -- Each turn is one of this run.
-use Rattle.std.proofs.Common.{ap, refl, subst, sym, ◌∙◌, ◌≡◌}
-use Rattle.std.specs.Prelude.{Some, true, ℕ}
+use Rattle.std.proofs.Common.{ap, arith, inr, refl, subst, sym, ◌∙◌, ◌≡◌}
+use Rattle.machine_data.specs.declared.label.Label.{Label}
+use Rattle.run_trace.specs.Traced.{Traced}
+use Rattle.std.specs.Prelude.{List, Some, true, ℕ}
 use Rattle.task_loop.proofs.DoesLemmas.{still, still_run}
 use Rattle.task_loop.proofs.HasRunLemmas.{at_turn}
 use Rattle.task_loop.proofs.HookLemmas.{stops_after}
 use Rattle.task_loop.proofs.KnowsLemmas.{by_poll, by_run}
-use Rattle.task_loop.proofs.LackLemmas.{tells_none}
 use Rattle.task_loop.proofs.TakenLemmas.{any_turns}
 use Rattle.task_loop.proofs.ToldLemmas.{current_is, other_told, run_turns, told_turn, turns_runs}
-use Rattle.task_loop.proofs.TurnLemmas.{took}
+use Rattle.task_loop.proofs.TurnLemmas.{gives, lacks_run, took}
 use Rattle.task_loop.proofs.run.RunConcurrent.turn.Goals as goal
-use Rattle.task_loop.specs.HasRun.{TurnsTo, at}
+use Rattle.task_loop.specs.HasRun.{MayTurn, TurnsTo, at}
 use Rattle.task_loop.specs.Ran.{DoesStep}
 use Rattle.task_loop.specs.Constants.{constants}
 use Rattle.task_loop.specs.Told.{TurnTold, group_running, turn_of}
 use Rattle.machine_data.specs.declared.records.Turn.{Turn}
 use Rattle.machine_data.specs.declared.records.Turn.TheVariants as turn
 use Rattle.task_store.specs.declared.store.Store.{Store}
-use Rattle.ops_turns.proofs.SteppedLemmas.{added_as, of_made}
+use Rattle.ops_turns.proofs.SteppedLemmas.{added_as, of_lost, of_made}
 use Rattle.ops_turns.specs.Does.{step_shown}
 use Rattle.ops_turns.specs.StepResult.{Added}
 use Rattle.ops_turns.specs.Turn.{IsAtTurn, IsFree, MakesStep, PendsIn, CoreInOrder, Turns, is_open, runs_in, setting_of}
@@ -25,21 +26,19 @@ use Rattle.ops_turns.specs.declared.made.MadeStep.{MadeStep}
 
 -- ---- Main does an op
 
-pub step_main-requires : goal.step_main-requires
-step_main-requires g c =
+pub step_main-requires-clause-may : goal.step_main-requires-clause-may
+step_main-requires-clause-may g c =
     let d = c.args.component.now in
     let may = c.requires.may in
     record {
-      may = record {
-        covered = may.covered;
-        order = subst (λ (p : Turn). CoreInOrder d p c.args.store.now.state.core) (sym c.turn_of.ensures ∙ c.in-Main.is) may.may_turn.order;
-        idle = may.may_turn.running ∙ ap (λ (p : Turn). runs_in p) (sym c.turn_of.ensures ∙ c.in-Main.is);
-        suits = may.may_turn.suits;
-        knows = may.may_turn.knows;
-        works = may.may_turn.works;
-        asked = may.may_turn.asked;
-        few = may.few;
-      };
+      covered = may.covered;
+      order = subst (λ (p : Turn). CoreInOrder d p c.args.store.now.state.core) (sym c.turn_of.ensures ∙ c.in-Main.is) may.may_turn.order;
+      idle = may.may_turn.running ∙ ap (λ (p : Turn). runs_in p) (sym c.turn_of.ensures ∙ c.in-Main.is);
+      suits = may.may_turn.suits;
+      knows = may.may_turn.knows;
+      works = may.may_turn.works;
+      asked = may.may_turn.asked;
+      few = may.few;
     }
 
 pub returns-in-Main-clause-turned : goal.returns-in-Main-clause-turned
@@ -49,12 +48,14 @@ returns-in-Main-clause-turned g c =
     let d = c.args.component.now in
     let main = c.args.main.now in
     let may = c.requires.may in
-    let u = at c.args.self.now main c.args.store.now c.args.trace.now in
-    let v = at c.args.self.now c.step_main.new.main c.step_main.new.store c.step_main.new.trace in
+    let u = at c.args.self.now main c.args.store.now c.args.trace.now.labels in
+    let v = at c.args.self.now c.step_main.new.main c.step_main.new.store c.step_main.new.trace.labels in
+    let mid = record u { trace = c.make_room.new.self.labels } in
     let q = c.step_main.result in
     let none : c.args.running.now ≡ 0 = may.group ∙ ap (λ (p : Turn). group_running c.args.store.now.state p) (sym c.turn_of.ensures ∙ c.in-Main.is) in
-    subst (λ (r : ℕ). TurnsTo says course d q r u v) (sym none)
-    (subst (λ (p : Turn). TurnsTo says course d q 0 (record u { turn = p }) (record v { turn = p })) (sym (sym c.turn_of.ensures ∙ c.in-Main.is)) (c.step_main.ensures.turned c.args.self.now.trap_on_idle))
+    gives says course d q c.args.running.now c.args.trace.now.spare u v c.make_room.new.self.labels c.in-Ok.ensures.labels
+    (subst (λ (r : ℕ). TurnsTo says course d q r mid v) (sym none)
+    (subst (λ (p : Turn). TurnsTo says course d q 0 (record mid { turn = p }) (record v { turn = p })) (sym (sym c.turn_of.ensures ∙ c.in-Main.is)) (c.step_main.ensures.turned c.args.self.now.trap_on_idle)))
 
 -- ---- A thread takes a step
 
@@ -65,7 +66,7 @@ run_thread-requires-clause-runs g c =
     let d = c.args.component.now in
     let main = c.args.main.now in
     let may = c.requires.may in
-    let u = at c.args.self.now main c.args.store.now c.args.trace.now in
+    let u = at c.args.self.now main c.args.store.now c.args.trace.now.labels in
     record {
       covered = may.covered;
       order = subst (λ (p : Turn). CoreInOrder d p c.args.store.now.state.core) (sym c.turn_of.ensures ∙ c.in-Run.is) may.may_turn.order;
@@ -94,11 +95,11 @@ returns-in-Run-clause-turned g c =
     let old = c.args.store.now.listeners in
     let new = c.run_thread.new.store.listeners in
     let x = setting_of d (says.script main) c.args.self.now.trap_on_idle in
-    let before = c.args.trace.now in
-    let after = c.run_thread.new.trace in
+    let before = c.make_room.new.self.labels in
+    let after = c.run_thread.new.trace.labels in
     let q = c.run_thread.result in
     let order = subst (λ (p : Turn). CoreInOrder d p s.core) at_run may.may_turn.order in
-    record {
+    gives says g.H.HostWork.course d q c.run_thread.new.running c.args.trace.now.spare (at c.args.self.now main c.args.store.now c.args.trace.now.labels) (at c.args.self.now main c.run_thread.new.store after) before c.in-Ok.ensures.labels (record {
       made = λ is.
           let ran = c.run_thread.ensures.ran.made is in
           let made = ran.steps.makes in
@@ -115,7 +116,7 @@ returns-in-Run-clause-turned g c =
             asked = ran.asked;
           };
       nothing = λ is. absurd (c.run_thread.ensures.ran.nothing is);
-      full = λ is. let lost = c.run_thread.ensures.ran.full is in record { trace = lost.0; main = λ other. refl; untold = λ other. lost.1.0; told = tells_none _ _ lost.1.0; groups = λ other. lost.1.1 };
+      full = λ is. lacks_run says g.H.HostWork.course d main c.args.self.now.trap_on_idle (turn_of c.args.self.now.last) n at_run c.args.store.now c.run_thread.new.store before after (c.run_thread.ensures.ran.full is);
       failed = λ is.
           let failed = c.run_thread.ensures.ran.failed is in
           let fails = failed.0 in
@@ -128,7 +129,7 @@ returns-in-Run-clause-turned g c =
             knows = by_run (says.knows main) s t (λ last. g.met.M.MainTask.stays main s t last may.may_turn.knows) x part n made.0 order made.1.1.0 k.1.works;
             works = k.1.hosts;
           };
-    }
+    })
 
 -- ---- A work is polled
 
@@ -139,7 +140,7 @@ poll_work-requires-clause-at g c =
     let d = c.args.component.now in
     let main = c.args.main.now in
     let may = c.requires.may in
-    let u = at c.args.self.now main c.args.store.now c.args.trace.now in
+    let u = at c.args.self.now main c.args.store.now c.args.trace.now.labels in
     subst (λ (p : Turn). IsAtTurn d p c.args.store.now.state) (sym c.turn_of.ensures ∙ c.in-Futures.is) (at_turn says course d c.args.running.now u may)
 
 pub poll_work-requires-clause-asked : goal.poll_work-requires-clause-asked
@@ -160,15 +161,15 @@ returns-in-Futures-clause-turned g c =
     let s = c.args.store.now.state in
     let t = c.poll_work.new.store.state in
     let x = setting_of d (says.script main) c.args.self.now.trap_on_idle in
-    let before = c.args.trace.now in
-    let after = c.poll_work.new.trace in
+    let before = c.make_room.new.self.labels in
+    let after = c.poll_work.new.trace.labels in
     let old = c.args.store.now.listeners in
     let new = c.poll_work.new.store.listeners in
     let q = c.poll_work.result in
     let works = c.poll_work.ensures.works in
     let order = subst (λ (w : Turn). CoreInOrder d w s.core) at_poll may.may_turn.order in
     let pends : PendsIn x s.core m p = subst (λ (w : Turn). PendsIn x s.core m w) at_poll may.may_turn.pends in
-    record {
+    gives says g.H.HostWork.course d q c.poll_work.new.running c.args.trace.now.spare (at c.args.self.now main c.args.store.now c.args.trace.now.labels) (at c.args.self.now main c.poll_work.new.store after) before c.in-Ok.ensures.labels (record {
       made = λ is.
           let polled = c.poll_work.ensures.polled.made is in
           let made : Added (λ (made : MadeStep). Turns x p m s made m t) q before after = any_turns x p m s t q before after pends polled.0 in
@@ -185,7 +186,7 @@ returns-in-Futures-clause-turned g c =
             asked = told.asked;
           };
       nothing = λ is. absurd (c.poll_work.ensures.polled.nothing is);
-      full = λ is. let lost = c.poll_work.ensures.polled.full is in record { trace = lost.0; main = λ other. refl; untold = λ other. lost.1.0; told = tells_none _ _ lost.1.0; groups = λ other. lost.1.1 };
+      full = λ is. absurd (c.poll_work.ensures.polled.full is);
       failed = λ is.
           let failed = c.poll_work.ensures.polled.failed is in
           let fails = failed.0 in
@@ -197,7 +198,7 @@ returns-in-Futures-clause-turned g c =
             knows = by_poll (says.knows main) s t (λ last. g.met.M.MainTask.stays main s t last may.may_turn.knows) x m c.in-Futures.polled made.0 order made.1.1 works.0;
             works = works.1;
           };
-    }
+    })
 
 -- ---- An entry is taken
 
@@ -208,7 +209,7 @@ take_entry-requires-clause-at g c =
     let d = c.args.component.now in
     let main = c.args.main.now in
     let may = c.requires.may in
-    let u = at c.args.self.now main c.args.store.now c.args.trace.now in
+    let u = at c.args.self.now main c.args.store.now c.args.trace.now.labels in
     subst (λ (p : Turn). IsAtTurn d p c.args.store.now.state) (sym c.turn_of.ensures ∙ c.in-Take.is) (at_turn says course d c.args.running.now u may)
 
 pub take_entry-requires-clause-asked : goal.take_entry-requires-clause-asked
@@ -221,10 +222,12 @@ returns-in-Take-clause-turned g c =
     let d = c.args.component.now in
     let main = c.args.main.now in
     let may = c.requires.may in
-    let u = at c.args.self.now main c.args.store.now c.args.trace.now in
+    let u = at c.args.self.now main c.args.store.now c.args.trace.now.labels in
     let e = c.take_entry.ensures in
-    took says course d main c.args.self.now.trap_on_idle c.in-Take.ended (turn_of c.args.self.now.last) (sym c.turn_of.ensures ∙ c.in-Take.is) c.args.store.now c.take_entry.new.store c.args.trace.now c.take_entry.new.trace c.take_entry.new.running c.args.running.now may
-    (λ u last. g.met.M.MainTask.stays main c.args.store.now.state u last) e.rest c.take_entry.result e.taken
+    gives says course d c.take_entry.result c.take_entry.new.running c.args.trace.now.spare u (at c.args.self.now main c.take_entry.new.store c.take_entry.new.trace.labels) c.make_room.new.self.labels c.in-Ok.ensures.labels
+    (took says course d main c.args.self.now.trap_on_idle c.in-Take.ended (turn_of c.args.self.now.last) (sym c.turn_of.ensures ∙ c.in-Take.is) c.args.store.now c.take_entry.new.store c.make_room.new.self.labels c.take_entry.new.trace.labels c.take_entry.new.running c.args.running.now
+    (subst (λ (ls : List Label). MayTurn says course d c.args.running.now (record u { trace = ls })) (sym c.in-Ok.ensures.labels) may)
+    (λ u last. g.met.M.MainTask.stays main c.args.store.now.state u last) e.rest c.take_entry.result e.taken)
 
 -- ---- What stays
 
@@ -245,3 +248,28 @@ pub unreachable-requires : goal.unreachable-requires
 unreachable-requires g c =
     let no = subst (λ (p : Turn). is_open p ≡ true) (sym c.turn_of.ensures ∙ c.in-Over.is) c.requires.may.unfinished in
     absurd (cc)
+
+-- ---- There is no room for the label
+
+pub returns-in_default-clause-turned : goal.returns-in_default-clause-turned
+returns-in_default-clause-turned g c =
+    let none = c.in_default.ensures.err in
+    of_lost (inr (record { none = none.1; same = ap (λ (ts : Traced). at c.args.self.now c.args.main.now c.args.store.now ts.labels) none.0 }))
+
+pub returns-in_default-clause-keeps : goal.returns-in_default-clause-keeps
+returns-in_default-clause-keeps g c = record { script = refl; idle = refl; constants = refl }
+
+pub returns-in_default-clause-spare : goal.returns-in_default-clause-spare
+returns-in_default-clause-spare g c = let same = ap (λ (ts : Traced). ts.spare) c.in_default.ensures.err.0 in omega (arith, same)
+
+pub returns-in-Main-clause-spare : goal.returns-in-Main-clause-spare
+returns-in-Main-clause-spare g c = omega (arith, c.in-Ok.ensures.kept, c.step_main.ensures.spare)
+
+pub returns-in-Futures-clause-spare : goal.returns-in-Futures-clause-spare
+returns-in-Futures-clause-spare g c = omega (arith, c.in-Ok.ensures.kept, c.poll_work.ensures.spare)
+
+pub returns-in-Run-clause-spare : goal.returns-in-Run-clause-spare
+returns-in-Run-clause-spare g c = omega (arith, c.in-Ok.ensures.kept, c.run_thread.ensures.spare)
+
+pub returns-in-Take-clause-spare : goal.returns-in-Take-clause-spare
+returns-in-Take-clause-spare g c = omega (arith, c.in-Ok.ensures.kept, c.take_entry.ensures.spare)
