@@ -55,7 +55,8 @@ fn is_joined(core: &TaskCore, subtask: SubtaskId) -> bool
 // As a cancel begins it finds the call, which is in no set.
 fn begin_cancel_spot(core: &TaskCore, thread: ThreadId, handle: u64) -> Spot
     requires { NamedCallsThere core.now.core }
-    ensures { Offers core.now (thread_of core.now thread) result (cancel_offer (thread_of core.now thread) handle core.now.core op_progress.Fresh) }
+    ensures { Offers core.now (thread_of core.now thread) result
+        (cancel_offer (thread_of core.now thread) handle core.now.core op_progress.Fresh) }
 {
     core.none_is_zero();
     let Some(subtask) = core.subtask_at(core.instance_of(thread), handle) else {

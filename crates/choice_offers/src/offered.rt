@@ -121,7 +121,8 @@ fn named_members(
     core: &TaskCore,
     ids: &[SubtaskId],
 ) -> Result<Vec<NamedMember>, AllocError>
-    ensures handles { IfOk result (λ l. handles_in l.items ≡ map (λ id. handle_or_none (subtask_in core.now.tags id) core.now.core) ids.now) }
+    ensures handles { IfOk result (λ l. handles_in l.items ≡
+        map (λ id. handle_or_none (subtask_in core.now.tags id) core.now.core) ids.now) }
     ensures known { IfOk result (λ l. All (λ m. m.handle ≡ handle_or_none (subtask_in core.now.tags m.subtask) core.now.core) l.items) }
     ensures subtasks { IfOk result (λ l. map (λ m. m.subtask) l.items ≡ ids.now) }
 {
@@ -165,8 +166,10 @@ fn members_at(
 ) -> Result<Vec<NamedMember>, AllocError>
     requires there { IfSome takes (λ x. 0 < set_of core.now x) }
     requires known { HandlesKnown core.now.core }
-    ensures handles { IfOk result (λ l. (n : ℕ) → IfSome takes (IsTakingThere core.now n) → handles_in l.items ≡ taken_at core.now n takes) }
-    ensures named { IfOk result (λ l. (n : ℕ) → IfSome takes (IsTakingThere core.now n) → AreNamedIn core.now (instance_of n core.now.core) l.items) }
+    ensures handles { IfOk result (λ l. (n : ℕ) → IfSome takes (IsTakingThere core.now n) →
+        handles_in l.items ≡ taken_at core.now n takes) }
+    ensures named { IfOk result (λ l. (n : ℕ) → IfSome takes (IsTakingThere core.now n) →
+        AreNamedIn core.now (instance_of n core.now.core) l.items) }
 {
     match takes {
         Some(set) => members_of(alloc, core, set),

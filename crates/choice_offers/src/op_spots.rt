@@ -34,7 +34,8 @@ use ops_moves::{foot_of, is_told, passes_check, tell_waiter};
 
 // The held threads of the instance are released beside what the spot chooses.
 fn opens(core: &TaskCore, instance: u32, opening: Opening, spot: Spot) -> Spot
-    ensures { (n : ℕ) (o : Offer) → Offers core.now n spot o → Offers core.now n result (releases (opened_by opening instance core.now.core) o) }
+    ensures { (n : ℕ) (o : Offer) → Offers core.now n spot o → Offers core.now n result
+        (releases (opened_by opening instance core.now.core) o) }
 {
     // only the contract speaks of `core`
     let _core = core;
@@ -297,7 +298,8 @@ fn finds_nothing(core: &TaskCore, thread: ThreadId, set: SetId) -> bool
 fn begin_wait_spot(core: &TaskCore, thread: ThreadId, handle: u64) -> Spot
     requires sets { SetsThere core.now.core }
     requires members { AllMembersNamed (instance_of (thread_of core.now thread) core.now.core) core.now.core }
-    ensures { Offers core.now (thread_of core.now thread) result (wait_offer (thread_of core.now thread) handle core.now.core op_progress.Fresh) }
+    ensures { Offers core.now (thread_of core.now thread) result
+        (wait_offer (thread_of core.now thread) handle core.now.core op_progress.Fresh) }
 {
     match set_named(core, core.instance_of(thread), handle) {
         Some(set) => {

@@ -93,7 +93,8 @@ pub fn cancels(core: &TaskCore, call: CallId) -> Spot
 pub fn takes(core: &TaskCore, thread: ThreadId, set: SetId) -> Spot
     requires live { 0 < set_of core.now set }
     requires named { MembersNamed (instance_of (thread_of core.now thread) core.now.core) (set_of core.now set) core.now.core }
-    ensures { Offers core.now (thread_of core.now thread) result (takes_of (thread_of core.now thread) (set_of core.now set) core.now.core) }
+    ensures { Offers core.now (thread_of core.now thread) result
+        (takes_of (thread_of core.now thread) (set_of core.now set) core.now.core) }
 {
     // only the contract speaks of `core` and `thread`
     let _core = core;
@@ -144,7 +145,8 @@ pub fn picks_task_event(core: &TaskCore, by_callback: bool, call: CallId) -> boo
 pub fn gives(core: &TaskCore, by_callback: bool, thread: ThreadId, set: SetId) -> Spot
     requires live { 0 < set_of core.now set }
     requires named { MembersNamed (instance_of (thread_of core.now thread) core.now.core) (set_of core.now set) core.now.core }
-    ensures { Offers core.now (thread_of core.now thread) result (gives by_callback (thread_of core.now thread) (set_of core.now set) core.now.core) }
+    ensures { Offers core.now (thread_of core.now thread) result
+        (gives by_callback (thread_of core.now thread) (set_of core.now set) core.now.core) }
 {
     if picks_task_event(core, by_callback, core.task_of(thread)) {
         no_spot(core)
@@ -158,7 +160,8 @@ pub fn gives(core: &TaskCore, by_callback: bool, thread: ThreadId, set: SetId) -
 pub fn gives_woken(core: &TaskCore, by_callback: bool, thread: ThreadId, set: SetId) -> Spot
     requires live { 0 < set_of core.now set }
     requires named { MembersNamed (instance_of (thread_of core.now thread) core.now.core) (set_of core.now set) core.now.core }
-    ensures { Offers core.now (thread_of core.now thread) result (gives_woken by_callback (thread_of core.now thread) (set_of core.now set) core.now.core) }
+    ensures { Offers core.now (thread_of core.now thread) result
+        (gives_woken by_callback (thread_of core.now thread) (set_of core.now set) core.now.core) }
 {
     if !picks_task_event(core, by_callback, core.task_of(thread)) {
         return takes(core, thread, set);

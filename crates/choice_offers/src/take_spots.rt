@@ -31,7 +31,8 @@ fn admits_start(core: &TaskCore, thread: ThreadId) -> bool
 // A call's first thread is held: that it will start is told, if it wasn't yet.
 fn starting_spot(core: &TaskCore, thread: ThreadId) -> Spot
     requires { IsThreadThere thread core.now }
-    ensures { Offers core.now (thread_of core.now thread) result (starting_offer (task_of (thread_of core.now thread) core.now.core) core.now.core) }
+    ensures { Offers core.now (thread_of core.now thread) result
+        (starting_offer (task_of (thread_of core.now thread) core.now.core) core.now.core) }
 {
     let call = core.task_of(thread);
     if core.starting_is_published(call) {
@@ -81,7 +82,8 @@ fn delivery_spot(core: &TaskCore, thread: ThreadId, delivery: Delivery) -> Spot
 /// Returns where the taking of an entry chooses.
 pub fn take_spot(core: &TaskCore, entry: EntryId) -> Spot
     requires { IsEntryThere entry core.now }
-    ensures { Offers core.now (entry_number (entry_in core.now.tags entry)) result (take_offer core.now.core (entry_in core.now.tags entry)) }
+    ensures { Offers core.now (entry_number (entry_in core.now.tags entry)) result
+        (take_offer core.now.core (entry_in core.now.tags entry)) }
 {
     match entry {
         EntryId::Thread(thread) => match core.why(thread) {

@@ -16,7 +16,8 @@ fn add_only(parts: &CoreParts, call: CallId, list: &mut Vec<ThreadId>) -> Result
     requires sound { IsSoundCore parts.now }
     requires live { 0 < call_of (seen parts.now) call }
     requires only { waits_cancellable (call_of (seen parts.now) call) (seen parts.now).core ≡ false }
-    ensures { OnOk result (AddsThreads (seen parts.now) (cancellable (call_of (seen parts.now) call) (seen parts.now).core) list.old.items list.new.items) }
+    ensures { OnOk result (AddsThreads (seen parts.now)
+        (cancellable (call_of (seen parts.now) call) (seen parts.now).core) list.old.items list.new.items) }
 {
     match core_picks::first_cancellable(parts, call) {
         Some(thread) => {
@@ -35,7 +36,8 @@ pub(crate) fn list_cancellable(
 ) -> Result<(), AllocError>
     requires sound { IsSoundCore parts.now }
     requires live { 0 < call_of (seen parts.now) call }
-    ensures { OnOk result (ListsThreads (seen parts.now) (cancellable (call_of (seen parts.now) call) (seen parts.now).core) list.new.items) }
+    ensures { OnOk result (ListsThreads (seen parts.now)
+        (cancellable (call_of (seen parts.now) call) (seen parts.now).core) list.new.items) }
 {
     list.clear();
     match core_records::call_there(parts, call).waits {

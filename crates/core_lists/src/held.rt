@@ -41,7 +41,8 @@ fn add_passing(
     list: &mut Vec<ThreadId>,
 ) -> Result<(), AllocError>
     requires { IsSoundCore parts.now }
-    ensures { OnOk result (AddsThreads (seen parts.now) (passing (seen parts.now) (thread_of (seen parts.now) thread ∷ [])) list.old.items list.new.items) }
+    ensures { OnOk result (AddsThreads (seen parts.now)
+        (passing (seen parts.now) (thread_of (seen parts.now) thread ∷ [])) list.old.items list.new.items) }
 {
     if passes_flag(parts, thread) {
         list.push(thread)?;
@@ -58,7 +59,8 @@ fn add_all_passing(
     requires sound { IsSoundCore parts.now }
     requires live { IsSome (list_of parts.now.places chain) }
     ensures links { IsLinks parts.now.places }
-    ensures added { OnOk result (AddsThreads (seen parts.now) (passing (seen parts.now) (of_chain parts.now chain)) list.old.items list.new.items) }
+    ensures added { OnOk result (AddsThreads (seen parts.now)
+        (passing (seen parts.now) (of_chain parts.now chain)) list.old.items list.new.items) }
 {
     let mut next = parts.places.first(chain);
     while let Some(entry) = next {

@@ -117,7 +117,8 @@ fn wakes(
     requires unended { end_of (call_of store.old.state call) store.old.state.core ≡ None }
     requires placed { Placed store.old.state.core }
     requires joins { (k : ℕ) → IsJoinThere (subtasks.Guest k) store.old.state.core }
-    ensures order { (c : Exports) (p : Turn) → is_open p ≡ true → CoreInOrder c p store.old.state.core → CoreInOrder c p store.new.state.core }
+    ensures order { (c : Exports) (p : Turn) → is_open p ≡ true → CoreInOrder c p store.old.state.core →
+        CoreInOrder c p store.new.state.core }
     ensures current { running_of store.new.state ≡ running_of store.old.state }
     ensures hosts { HoldsHosts ⟦<ScriptedHost as HostWork>⟧.course store.old → HoldsHosts ⟦<ScriptedHost as HostWork>⟧.course store.new }
     ensures groups { IsAsked store.old.state → IsAsked store.new.state }

@@ -77,7 +77,8 @@ react_lines hosts earlier None = []
 react_lines hosts earlier (Some ops) = react_tokens ∷ script_lines hosts earlier ops
 
 abbrev pub export_lines : List HostText → List InstanceText → ExportText → Lines
-export_lines hosts earlier e = export_tokens e.name e.kind e.params ∷ script_lines hosts earlier e.start ++ react_lines hosts earlier e.react
+export_lines hosts earlier e =
+    export_tokens e.name e.kind e.params ∷ script_lines hosts earlier e.start ++ react_lines hosts earlier e.react
 
 abbrev pub part_lines : List HostText → List InstanceText → PartText → Lines
 part_lines hosts earlier (part.Export e) = export_lines hosts earlier e

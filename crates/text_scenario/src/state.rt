@@ -518,7 +518,8 @@ impl State {
     #[inline(never)]
     #[tactic(auto, unfolding(text_lines::specs::Line::line_after, text_lines::specs::Line::main_op_after, crate::specs::State::after, crate::specs::State::after_main_op, crate::specs::State::main_open, crate::specs::State::main_op_of, crate::specs::State::start_of))]
     fn add_start(&mut self, alloc: Global, tokens: &[&[u8]]) -> Result<(), LineError>
-        ensures value { BecomesValue self.new result (after_keyword self.old (keyword.Main main_keyword.Start) (map (λ w. w.now) tokens.now)) }
+        ensures value { BecomesValue self.new result
+            (after_keyword self.old (keyword.Main main_keyword.Start) (map (λ w. w.now) tokens.now)) }
         ensures err { OnErr result (self.new ≡ self.old) }
     {
         let (instance, export, operands) = start_tokens(alloc, tokens)?;
@@ -540,7 +541,8 @@ impl State {
     #[inline(never)]
     #[tactic(auto, unfolding(text_lines::specs::Line::line_after, text_lines::specs::Line::main_op_after, crate::specs::State::after, crate::specs::State::after_main_op, crate::specs::State::main_open, crate::specs::State::main_op_of))]
     fn add_finish(&mut self, tokens: &[&[u8]]) -> Result<(), LineError>
-        ensures value { BecomesValue self.new result (after_keyword self.old (keyword.Main main_keyword.Finish) (map (λ w. w.now) tokens.now)) }
+        ensures value { BecomesValue self.new result
+            (after_keyword self.old (keyword.Main main_keyword.Finish) (map (λ w. w.now) tokens.now)) }
         ensures err { OnErr result (self.new ≡ self.old) }
     {
         let Some((start, to)) = finish_tokens(tokens) else {
