@@ -1,4 +1,5 @@
 pub mod MachineLemmas
+pub mod OnlyLemmas
 pub mod OpenLemmas
 pub mod SpotLemmas
 pub mod StepLemmas

@@ -91,13 +91,13 @@ module _ (m new : Machine) (ls : List Label) (l : Label) (kept : IsKept m) (open
   stepped =
       subst (λ (x : Setting). Step x (state_of m) l (state_of new)) (same_setting m [] kept)
       (subst (λ (k : Label). Step before (state_of m) k (state_of new)) (sym label)
-      (subst (λ (q : Turn). Step before (state_of m) made.label (state_at new.store.state.core (part_of new.main) q)) (sym is.turn) is.turns.step))
+      (subst (λ (q : Turn). Step before (state_of m) made.label (state_at new.store.state.core (part_of new.main) q)) (sym is.turn) is.told.turned.step))
 
   picked : Picks (preference m.store.state) (setting_at m) (state_of m) l (state_of new)
   picked =
       subst (λ (x : Setting). Picks (preference m.store.state) x (state_of m) l (state_of new)) (same_setting m [] kept)
       (subst (λ (k : Label). Picks (preference m.store.state) before (state_of m) k (state_of new)) (sym label)
-      (subst (λ (q : Turn). Picks (preference m.store.state) before (state_of m) made.label (state_at new.store.state.core (part_of new.main) q)) (sym is.turn) is.turns.picks))
+      (subst (λ (q : Turn). Picks (preference m.store.state) before (state_of m) made.label (state_at new.store.state.core (part_of new.main) q)) (sym is.turn) is.told.turned.picks))
 
   open_made : is_open (turn_at new) ≡ true → is_open made.turn ≡ true
   open_made goes = sym (ap is_open is.turn) ∙ goes
@@ -121,7 +121,7 @@ module _ (m new : Machine) (ls : List Label) (l : Label) (kept : IsKept m) (open
       may_go_on = goes_on;
       works = settled_step (setting_at m) (state_of m) l (state_of new) (record { hosts = kept.hosts; main = λ e. absurd (cc) }) kept.works stepped;
       named = names_known (setting_at m) (state_of m) l (state_of new) ((kept.may_go_on opened).order.order (state_of m).main) stepped;
-      over = ap (λ (o : Option Label). is_none (option_and_then outcome_of_label o)) last ∙ (ap (λ (k : Label). is_none (outcome_of_label k)) label ∙ (is.turns.over ∙ ap is_open (sym is.turn)));
+      over = ap (λ (o : Option Label). is_none (option_and_then outcome_of_label o)) last ∙ (ap (λ (k : Label). is_none (outcome_of_label k)) label ∙ (is.told.turned.over ∙ ap is_open (sym is.turn)));
       timed = timed;
     }
 

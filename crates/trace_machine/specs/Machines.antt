@@ -10,7 +10,8 @@ use Rattle.choice_offers.specs.declared.offered.Offered.{Offered}
 use Rattle.choice_offers.specs.declared.spots.Spot.{Spot}
 use Rattle.core_primitives.specs.Preferences.{preference}
 use Rattle.core_primitives.specs.StateView.{with_wanted}
-use Rattle.laws_choices.specs.Offer.{FitsOffer}
+use Rattle.laws_choices.specs.Offer as offers
+use Rattle.laws_choices.specs.Offer.{FitsOffer, first_choice}
 use Rattle.laws_choices.specs.Offers.{offer}
 use Rattle.laws_choices.specs.Steps.{StepBy}
 use Rattle.choice_offers.specs.Held.{IsOnce, KnowsHeld}
@@ -41,6 +42,8 @@ use Rattle.task_run.specs.Runnable.{IsRunnable}
 use Rattle.task_run.specs.Says.{script_says}
 use Rattle.task_run.specs.Script.{machine_ops, part_of, script_of}
 use Rattle.trace_machine.specs.declared.machine.Machine.{Machine}
+use Rattle.trace_machine.specs.declared.machine.Only.TheVariants as only
+use Rattle.trace_machine.specs.declared.machine.Only.{Only}
 use Rattle.trace_machine.specs.declared.machine.Went.TheVariants as went
 use Rattle.trace_machine.specs.declared.machine.Went.{Went}
 
@@ -174,6 +177,30 @@ abbrev pub Comes : Machine → Choice → Went → Machine → Type 0
 Comes m c (went.Did l) new = Goes m c l new
 Comes m c went.Refused new = IsRefused m c × (new ≡ m)
 Comes m c went.Over new = (MayGo m → ⊥) × ((new ≡ m) × IsOver m)
+
+-- two choices or more fit
+abbrev pub leaves_choice : Machine → Bool
+leaves_choice m = offers.is_open (offer (setting_at m) (state_of m))
+
+-- The only choice that fits made the step with this label.
+pub record GoesOnly (m : Machine) (l : Label) (new : Machine) : Type 0 where
+  pub closed : leaves_choice m ≡ false
+  pub choice : Choice
+  pub only : chosen_of choice ≡ first_choice (offer (setting_at m) (state_of m))
+  pub goes : Goes m choice l new
+
+-- The run goes on, and two choices or more fit what is offered.
+pub record IsLeftOpen (m : Machine) (o : Offer) : Type 0 where
+  pub unfinished : is_open (turn_at m) ≡ true
+  pub moves : is_at_rest (setting_at m) (state_of m) ≡ false
+  pub opened : leaves_choice m ≡ true
+  pub offered : IsOfferOf m o
+
+-- what came of a step that is made if it leaves no choice
+abbrev pub ComesOnly : Machine → Only → Machine → Type 0
+ComesOnly m (only.Did l) new = GoesOnly m l new
+ComesOnly m (only.Open o) new = IsLeftOpen m o × (new ≡ m)
+ComesOnly m only.Over new = (MayGo m → ⊥) × ((new ≡ m) × IsOver m)
 
 -- ---- What it has come to
 

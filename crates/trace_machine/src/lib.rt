@@ -6,4 +6,4 @@ mod labels;
 mod machine;
 
 pub use choice_offers::{Choice, Offer, fits};
-pub use machine::{Machine, Went};
+pub use machine::{Machine, Only, Went};

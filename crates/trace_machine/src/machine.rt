@@ -13,7 +13,7 @@ ghost use Rattle.std.specs.Prelude.{◌≡◌, ◌∷◌, [], Bool, IfOk, None, 
 ghost use Rattle.ops_turns.specs.Turn.{given};
 ghost use Rattle.task_run.specs.Headline.{machine_scenario};
 ghost use Rattle.task_run.specs.Runnable.{IsRunnable};
-ghost use Rattle.trace_machine.specs.Machines.{Comes, GoesOn, HoldsLast, HasNumbers, HasWanted, IsKept, IsOffered, IsOfferOf};
+ghost use Rattle.trace_machine.specs.Machines.{Comes, ComesOnly, GoesOn, HoldsLast, HasNumbers, HasWanted, IsKept, IsOffered, IsOfferOf};
 ghost use Rattle.trace_machine.specs.Machines.{KnowsOrder, chooser_of, held_in, outcome_at, setting_at, state_of, turn_at};
 
 use crate::labels::{held_in, outcome_of_last};
@@ -33,6 +33,17 @@ pub enum Went {
     Did(Label),
     /// The run goes on, and the choice doesn't fit. All is as before.
     Refused,
+    /// No label is lawful.
+    Over,
+}
+
+/// What came of a step that is made if it leaves no choice.
+#[derive(Drop)]
+pub enum Only {
+    /// The step with this label was made, by the only choice that fits.
+    Did(Label),
+    /// The run goes on, and two choices or more fit this offer. All is as before.
+    Open(Offer),
     /// No label is lawful.
     Over,
 }
@@ -243,6 +254,28 @@ impl<'a> Machine<'a> {
         self.want(&offered, choice)?;
         let label = self.go_on()?;
         Ok(Went::Did(label))
+    }
+
+    /// Makes the next step if it leaves no choice: `Did` with its label. `Over` if no label is lawful: the run is over, or nothing can
+    /// go on. `Open` with what is offered if two choices or more fit; then all is as before. If it is out of memory, nothing is said of
+    /// the machine.
+    pub fn go_only(&mut self) -> Result<Only, NoMemory>
+        requires kept { IsKept self.old }
+        requires few { HasNumbers self.old }
+        ensures { IfOk result (λ only. ComesOnly self.old only self.new) }
+    {
+        if self.is_over() {
+            return Ok(Only::Over);
+        }
+        let offered = self.offered()?;
+        let offer = offered.offer(self.alloc)?;
+        if offer.is_open() {
+            return Ok(Only::Open(offer));
+        }
+        let choice = offer.first_choice(self.alloc)?;
+        self.want(&offered, &choice)?;
+        let label = self.go_on()?;
+        Ok(Only::Did(label))
     }
 
     /// Returns what the run has come to, if it has: by its last label, or else that it is idle, or else, if `used_up` says that its
