@@ -2,6 +2,7 @@
 #![tactic(auto)]
 
 use beside_main::{OpenGate, tool_beside};
+use choice_run::choice_tool;
 use serve_main::serve_tool;
 use std::alloc::AllocError;
 use std::process::ExitCode;
@@ -39,6 +40,9 @@ fn main(rt: HostRuntime) -> ExitCode {
         }
         Some(word) if word.as_bytes() == b"beside".as_slice() => {
             tool_beside(&rt, rt.alloc(), words, &mut source, &mut sink, &OpenGate).status
+        }
+        Some(word) if word.as_bytes() == b"choose".as_slice() => {
+            choice_tool(rt.alloc(), words, &mut source, &mut sink)
         }
         _ => tool(rt.alloc(), words, &mut source, &mut sink).status,
     };

@@ -1,0 +1,5 @@
+pub mod Chosen
+pub mod ChooseLines
+pub mod Reading
+pub mod Stepping
+pub mod Tool
