@@ -1,0 +1,12 @@
+pub mod AheadLemmas
+pub mod AskedLemmas
+pub mod BranchLemmas
+pub mod CountLemmas
+pub mod CoverLemmas
+pub mod FoundLemmas
+pub mod GoneLemmas
+pub mod LimitLemmas
+pub mod NumberLemmas
+pub mod OrderLemmas
+pub mod StepLemmas
+pub mod WayLemmas

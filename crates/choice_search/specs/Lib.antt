@@ -1,0 +1,4 @@
+pub mod Numbered
+pub mod Searched
+pub mod Searching
+pub mod Ways
