@@ -2,12 +2,17 @@
 """Says in one sentence why a text is no scenario.
 
     tools/why.py TEXT [--json]
+    tools/why.py TEXT --report REPORT --line N
 
 TEXT is a file, or `-` for standard input. The program answers `bad scenario line N` and no more. This reads the text by the same rules
 (docs/SCENARIO.md), and prints the number of the first bad line, what is wrong there, and the line itself; with --json as an object with
 `line`, `reason` and `text`, of which the first is null if the text is a scenario.
 
-Statuses: 0 the text is a scenario; 2 wrong words; 3 it is none; 4 it can't be read; 6 it is too long.
+With --report it says what may stand in line N of a report of the text: the labels that may come there in a run whose lines before it
+are these, or the outcome.
+
+Statuses: 0 the text is a scenario, or what is expected was said; 2 wrong words; 3 it is none; 4 it can't be read; 5 a line before line N
+is wrong; 6 it is too long.
 """
 import argparse
 import difflib
@@ -444,12 +449,35 @@ def say(bad, text, as_json):
             print(f'  {ascii(line)[1:-1][:120]}')
 
 
+def say_expected(said):
+    """Prints what may stand in a line of a report."""
+    import lawful  # here, as it reads scenarios by this module
+    try:
+        labels, outcome = lawful.expected(said.text, said.report, said.line)
+    except lawful.scenario.Unreadable as error:
+        print(f'why: {error}', file=sys.stderr)
+        return error.status
+    except lawful.Misfit as misfit:
+        print(f'a line before line {said.line} is wrong: {misfit}')
+        return 5
+    known = [*labels, *([outcome] if outcome else [])]
+    print(f'line {said.line}: expected ' + ('nothing, as the report ends before it' if not known else f'`{known[0]}`' if len(known) == 1
+                                            else 'one of ' + ', '.join(f'`{one}`' for one in known)))
+    return 0
+
+
 def main(given=None):
     """The status of a call with these words, or with those of the command line."""
     parser = argparse.ArgumentParser(description=__doc__, formatter_class=argparse.RawDescriptionHelpFormatter)
     parser.add_argument('text')
     parser.add_argument('--json', action='store_true')
+    parser.add_argument('--report')
+    parser.add_argument('--line', type=int, metavar='N')
     said = parser.parse_args(given)
+    if (said.report is None) != (said.line is None) or said.line is not None and said.line < 1:
+        parser.error('--report and --line N, from 1 on, go together')
+    if said.report is not None:
+        return say_expected(said)
     try:
         text = content(said.text)
     except OSError as error:
